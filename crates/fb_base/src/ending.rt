@@ -1,0 +1,62 @@
+use crate::fault::Fault;
+use crate::text::Text;
+
+/// The stream that a write fault came from.
+#[derive(Clone, Copy, Debug, PartialEq, Eq)]
+pub enum WhichSink {
+    /// The program's output.
+    Out,
+    /// The messages.
+    Err,
+}
+
+/// What is wrong with a command line.
+#[derive(Clone, Copy, Debug, PartialEq, Eq)]
+pub enum UsageWhy {
+    /// The words aren't a command.
+    Words,
+}
+
+/// What is wrong with the bytes of an image.
+#[derive(Clone, Copy, Debug, PartialEq, Eq)]
+pub enum ImageWhy {
+    /// The first four bytes.
+    Magic,
+    /// The next four, which have the version.
+    Version,
+    /// A count of which there has to be at least one.
+    Count,
+    /// A procedure's first word.
+    Entry,
+    /// A shape.
+    ShapeRule,
+    /// A literal.
+    LiteralRule,
+    /// The line table.
+    LineRule,
+    /// The bytes end too early.
+    Short,
+    /// Bytes follow the end.
+    Extra,
+}
+
+/// How a command ended.
+#[derive(Debug, Drop)]
+pub enum Ending {
+    /// The program ended, with this status.
+    Ended { status: u8 },
+    /// A stream took no more bytes.
+    WriteFault { sink: WhichSink },
+    /// The command line is faulty.
+    Usage { why: UsageWhy },
+    /// There is no file of this name.
+    NoFile { name: Text },
+    /// The file of this name has more bytes than are read.
+    TooLong { name: Text },
+    /// A file couldn't be read.
+    StoreFault,
+    /// Memory ran out.
+    NoMemory,
+    /// The text isn't a program of this profile; its first fault.
+    Refused { fault: Fault },
+}

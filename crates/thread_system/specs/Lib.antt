@@ -1,0 +1,4 @@
+pub mod Effect
+pub mod Memory
+pub mod Segment
+pub mod Simulation
