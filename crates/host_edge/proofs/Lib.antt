@@ -1,0 +1,4 @@
+pub mod Appending
+pub mod Held
+pub mod Rising
+pub mod Taking
