@@ -1,0 +1,17 @@
+use Rattle.std.specs.Prelude.{ℕ, ◌-◌, ◌^◌, nat_lt, if◌then◌else◌, List, [], ◌∷◌, ◌++◌, decimal}
+use Rattle.fb_top.specs.Tree.{Tree, value_of}
+
+-- What Print writes for a word as a signed number: a space where it isn't negative, else a minus sign, and its
+-- decimal digits.
+abbrev pub signed_item : ℕ → List ℕ
+signed_item word = if nat_lt word (2 ^ 63) then 32 ∷ decimal word else 45 ∷ decimal (2 ^ 64 - word)
+
+-- What the calls of a program write, one list for each: a line of Print has a call for its item and one for its line
+-- end.
+abbrev pub prints_of : List Tree → List (List ℕ)
+prints_of [] = []
+prints_of (tree ∷ trees) = signed_item (value_of tree) ∷ ((10 ∷ []) ∷ prints_of trees)
+
+-- The bytes that the entries of a program write: those of its calls that print, and none for the end of the main module.
+abbrev pub entries_of : List Tree → List (List ℕ)
+entries_of trees = prints_of trees ++ [] ∷ []

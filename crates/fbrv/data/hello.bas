@@ -1,0 +1,2 @@
+Print 2 + 3 * 4
+Print 2 - 5
