@@ -1,0 +1,9 @@
+pub mod Cut
+pub mod Exact
+pub mod Items
+pub mod Lines
+pub mod Loop
+pub mod Parts
+pub mod Readings
+pub mod Rules
+pub mod Words
