@@ -1,0 +1,6 @@
+pub mod Access
+pub mod Calls
+pub mod Pages
+pub mod Plan
+pub mod State
+pub mod Step

@@ -1,0 +1,16 @@
+//! One step of an RV64IM thread over an image: the machine of `rv_isa` carried out.
+#![tactic(auto)]
+
+mod bus;
+mod cpu;
+mod machine;
+mod page;
+mod plan;
+mod stack;
+mod stop;
+mod words;
+
+pub use bus::{Bus, BusErr};
+pub use cpu::Cpu;
+pub use machine::step;
+pub use stop::Stop;
