@@ -1,0 +1,14 @@
+pub mod Begun
+pub mod Comments
+pub mod Doubling
+pub mod Enclosed
+pub mod Exact
+pub mod Groups
+pub mod Moves
+pub mod Numbers
+pub mod Rows
+pub mod Runs
+pub mod Sound
+pub mod Spelt
+pub mod Table
+pub mod Unique

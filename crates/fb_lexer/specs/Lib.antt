@@ -1,0 +1,9 @@
+pub mod Grammar
+pub mod Lengths
+pub mod Letters
+pub mod Marks
+pub mod Pieces
+pub mod Rows
+pub mod Spelling
+pub mod TokenList
+pub mod Words

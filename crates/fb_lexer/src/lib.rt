@@ -1,0 +1,23 @@
+//! The tokens of FreeBASIC text: names, reserved words, numbers, string literals, marks and line ends, exact on any
+//! bytes.
+#![tactic(auto)]
+
+mod comment;
+mod front;
+mod letters;
+mod lexing;
+mod literal;
+mod mark;
+mod name;
+mod number;
+mod piece;
+mod row;
+mod token;
+mod word;
+
+pub use lexing::{LexErr, Tokens, lex, one_piece, one_row};
+pub use token::{Mark, Token, TokenKind};
+pub use word::Word;
+
+#[cfg(test)]
+mod tests;
