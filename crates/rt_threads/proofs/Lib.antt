@@ -1,0 +1,15 @@
+pub mod Times
+pub mod Lines
+pub mod Moved
+pub mod Places
+pub mod Standing
+pub mod Keeping
+pub mod Counts
+pub mod Kept
+pub mod Woken
+pub mod Grown
+pub mod Evolves
+pub mod CallStands
+pub mod Rising
+pub mod Holds
+pub mod Starts

@@ -1,0 +1,8 @@
+use Rattle.rt_threads.specs.Table.{IsReady}
+use Rattle.rt_threads.proofs.Kept.{detached_kept}
+use Rattle.rt_threads.proofs.threads.Threads.detach.Goals as goal
+
+pub invariant_of-self : goal.invariant_of-self
+invariant_of-self c =
+    let ready : IsReady c.self.inside.parts c.args.t = rw c.self.view_is c.requires in
+    detached_kept _ _ _ _ _ _ _ _ c.detach.ensures c.self.invariant ready
