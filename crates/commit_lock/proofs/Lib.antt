@@ -1,0 +1,4 @@
+pub mod Sums
+pub mod Begins
+pub mod Taking
+pub mod Pages
