@@ -5,12 +5,14 @@ use Rattle.std.specs.Option.{option_map, option_and_then}
 use Rattle.std.proofs.lemmas.Bool.{false≢true, cases_lt}
 use Rattle.std.proofs.lemmas.List.{map-set, set-get_or}
 use Rattle.thread_system.specs.Memory.{next_address, read}
+use Rattle.std.proofs.Math.ListN.{length-replicate, length-map}
 use Rattle.fb_base.specs.declared.shape.Shape.{Shape}
+use Rattle.fb_base.specs.Shapes.{IsShape}
 use Rattle.places.specs.declared.kinds.Form.{Form}
 use Rattle.places.specs.declared.kinds.Cell.{Cell}
-use Rattle.places.specs.Place.{Place, Head, size_of, byte_in, cell_in, cell_number, may_close_in, puts_in, closes_in, with_closed_in, with_byte_in, with_cell_in}
+use Rattle.places.specs.Place.{Place, Head, size_of, byte_in, cell_in, cell_number, may_close_in, puts_in, closes_in, with_closed_in, with_byte_in, with_cell_in, fresh, dead_cell}
 use Rattle.places.specs.Memory.{Places, place_at, place_of, starts_at, with_place, number_of, offset_of, byte_at, tells, each_byte}
-use Rattle.places.specs.Calls.{with_change, puts, written, closes, closed, may_close, with_cell, may_die, begun}
+use Rattle.places.specs.Calls.{with_change, puts, written, closes, closed, may_close, with_cell, may_die, begun, most_live, new_head}
 use Rattle.places.specs.Standing.{IsPlace, Stands}
 use Rattle.places.specs.Kept.{IsKept, places_of}
 use Rattle.places.specs.Answers.{IsWidth, Writes, SetsCell, Closes, Sets, Does}
@@ -199,3 +201,33 @@ started m a p is = by_test (nat_eq (offset_of a) 0) is where
   by_test : (b : Bool) → cond b (place_of m a) None ≡ Some p → place_at m (number_of a) ≡ Some p
   by_test true e = e
   by_test false e = absurd (none_is e)
+
+pub boxed_push : (items : List (Option (Box Place))) (b : Box Place) → places_of (items ++ Some b ∷ []) ≡ places_of items ++ Some b.value ∷ []
+boxed_push [] b = refl
+boxed_push (x ∷ xs) b = ap (λ r. option_map (λ y. y.value) x ∷ r) (boxed_push xs b)
+
+-- a new place
+pub fresh_place : (shape : Shape) (count : ℕ) (form : Form) → IsShape 0 shape → 1 ≤ count → shape.size * count ≤ most_live → IsPlace (fresh (new_head shape count form))
+fresh_place shape count form lawful some limit = record {
+  shape = lawful;
+  some = some;
+  limit = limit;
+  bytes = length-replicate (shape.size * count) 0;
+  closed = length-replicate (shape.size * count) false;
+  cells = length-replicate (count * length shape.cells) dead_cell;
+}
+
+pub boxed_within : (items : List (Option (Box Place))) (m : Places) (n : ℕ) → places_of items ≡ m → (0 < n) × (n ≤ length m) → n - 1 < length items
+boxed_within items m n view g =
+    let e = length-map items (λ (o : Option (Box Place)). option_map (λ b. b.value) o) in
+    let h = ap length view in
+    let some = g.0 in
+    let within = g.1 in
+    omega (arith, e, h)
+
+-- where a place begins at an address, its number was given
+pub started_some : (m : Places) (a : ℕ) → is_some (starts_at m a) ≡ true → (0 < number_of a) × (number_of a ≤ length m)
+started_some m a some = by_place (starts_at m a) refl some where
+  by_place : (x : Option Place) → starts_at m a ≡ x → is_some x ≡ true → (0 < number_of a) × (number_of a ≤ length m)
+  by_place None e s = absurd (false≢true s)
+  by_place (Some p) e s = given m (number_of a) p (started m a p e)

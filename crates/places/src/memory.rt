@@ -103,7 +103,8 @@ impl Memory {
 
     // The place that begins at an address.
     fn starting(&self, addr: u64) -> Option<&Place>
-        ensures { option_copied result ≡ starts_at self.now addr }
+        ensures found { option_copied result ≡ starts_at self.now addr }
+        ensures aligned { IfSome result (λ _. addr % 2 ^ 32 ≡ 0) }
     {
         if addr % 0x1_0000_0000 == 0 {
             self.place(addr >> 32)

@@ -416,7 +416,8 @@ impl Place {
 
     /// The offset of the first alive cell, from an offset on.
     pub(crate) fn first_alive(&self, from: u64) -> Option<u64>
-        ensures { result ≡ spec.first_from (begins_alive self.now) from (spec.size_of self.now.head - from) }
+        ensures found { result ≡ spec.first_from (begins_alive self.now) from (spec.size_of self.now.head - from) }
+        ensures low { IfSome result (λ o. o < 2 ^ 31) }
     {
         for at in from..self.bytes.len() as u64 {
             if self.begins_alive(at) {
