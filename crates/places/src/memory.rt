@@ -61,6 +61,13 @@ impl Memory {
         let _ = &self.live;
     }
 
+    /// The number that the next place gets.
+    pub fn next(&self) -> u64
+        ensures { result ≡ next_number self.now }
+    {
+        self.places.len() as u64 + 1
+    }
+
     /// Makes a place of so many elements, with zeros as its bytes and no cell alive, and gives the address of its first
     /// byte. PlaceLimit comes exactly where the live places would have more than 67,108,864 bytes together. After an
     /// error all is as before.

@@ -1,4 +1,5 @@
-ghost use Rattle.std.specs.Prelude.{◌≡◌, ◌*◌, ◌≤◌, ◌==◌, length, IfOk};
+ghost use Rattle.std.specs.Prelude.{◌≡◌, ◌*◌, ◌≤◌, ◌==◌, [], length, IfOk};
+ghost use Rattle.std.specs.Bool.{OnTrue};
 ghost use Rattle.std.specs.List.{list_any};
 ghost use Rattle.fb_base.specs.Shapes.{AreCells};
 ghost use Rattle.places.specs.Place.{cell_over};
@@ -39,6 +40,14 @@ impl Offsets {
         ensures { result ≡ length self.now }
     {
         self.offsets.len()
+    }
+
+    /// Whether there are none.
+    #[inline]
+    pub(crate) fn is_empty(&self) -> bool
+        ensures { OnTrue result (self.now ≡ []) }
+    {
+        self.offsets.is_empty()
     }
 
     /// Whether these are the same offsets.

@@ -136,6 +136,9 @@ impl Place {
         ensures within { IfSome result (λ k. k < length self.now.cells) }
         ensures place { IsPlace self.now }
     {
+        if self.offsets.is_empty() {
+            return None;
+        }
         let k = self.offsets.over(o % self.size)?;
         Some((o / self.size) as usize * self.offsets.len() + k)
     }
