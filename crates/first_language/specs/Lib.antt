@@ -2,5 +2,6 @@ pub mod Fronts
 pub mod Grammar
 pub mod Kept
 pub mod Reading
+pub mod Texts
 pub mod Tokens
 pub mod Tree

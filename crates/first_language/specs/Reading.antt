@@ -106,11 +106,15 @@ assignment names number name (t.Sign Same ∷ tokens) =
     option_and_then (λ x. option_map (λ value. Does (Assign x value number)) (expression_of names tokens)) (place_of names name)
 assignment names number name other = None
 
+abbrev pub is_then : Token → Bool
+is_then t.Then = true
+is_then other = false
+
 -- the tokens before a Then at their end
 abbrev pub before_then : Tokens → Option Tokens
 before_then [] = None
-before_then (t.Then ∷ []) = Some []
-before_then (token ∷ tokens) = option_map (λ front. token ∷ front) (before_then tokens)
+before_then (token ∷ []) = if is_then token then Some [] else None
+before_then (token ∷ next ∷ tokens) = option_map (λ front. token ∷ front) (before_then (next ∷ tokens))
 
 -- behind If
 abbrev pub condition : Names → Tokens → Option Line
