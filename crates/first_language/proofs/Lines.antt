@@ -9,11 +9,11 @@ pub before_last : (front : Tokens) (last : Token) → before_then (front ++ last
 before_last [] last = refl
 before_last (a ∷ []) last = mapped (is_then last)
   where
-  mapped : (b : Bool) → option_map (λ front. a ∷ front) (if b then Some [] else None) ≡ (if b then Some (a ∷ []) else None)
-  mapped true = refl
-  mapped false = refl
+    mapped : (b : Bool) → option_map (λ front. a ∷ front) (if b then Some [] else None) ≡ (if b then Some (a ∷ []) else None)
+    mapped true = refl
+    mapped false = refl
 before_last (a ∷ b ∷ rest) last = ap (option_map (λ front. a ∷ front)) (before_last (b ∷ rest) last) ∙ mapped (is_then last)
   where
-  mapped : (c : Bool) → option_map (λ front. a ∷ front) (if c then Some (b ∷ rest) else None) ≡ (if c then Some (a ∷ b ∷ rest) else None)
-  mapped true = refl
-  mapped false = refl
+    mapped : (c : Bool) → option_map (λ front. a ∷ front) (if c then Some (b ∷ rest) else None) ≡ (if c then Some (a ∷ b ∷ rest) else None)
+    mapped true = refl
+    mapped false = refl

@@ -24,9 +24,9 @@ enclosed_kept box inside deep same small = rw (lt-ltb deep 200 small, tree_paren
 
 pub joined_kept : (op : Operator) (first second left right : Expr) (deep a b : ℕ) → first ≡ left → second ≡ right → deep ≡ max a b → deep < 200
     → let kept : Part = record { tree = tree_of (e.Apply op first second); deep = 1 + deep } in
-      let one : Part = record { tree = tree_of left; deep = a } in
-      let other : Part = record { tree = tree_of right; deep = b } in
-      Some kept ≡ joined one op other
+    let one : Part = record { tree = tree_of left; deep = a } in
+    let other : Part = record { tree = tree_of right; deep = b } in
+    Some kept ≡ joined one op other
 joined_kept op first second left right deep a b same same2 most small =
     let less : max a b < 200 = rw (← most) small in
     rw (lt-ltb (max a b) 200 less, tree_apply op first second, same, same2, most) refl

@@ -104,10 +104,10 @@ named_before (opening ∷ outer) here names above line lines program name statem
 named_before [] here names above line lines program name statement None next one puts new e r =
     declared (remains_here (progress [] (with_last here statement) (names ++ name ∷ []) (suc above)) next lines program (some_is _ next e) r)
   where
-  declared : Remains [] (with_last here statement) (names ++ name ∷ []) (suc above) lines program → Remains [] here names above (line ∷ lines) program
-  declared (outermost _ _ _ _ block all _ s small statements variables last_line) =
-      outermost here names above (line ∷ lines) (Then statement block) all program (puts lines block all new s) (omega (arith, one))
-      (statements ∙ join_assoc here (Then statement End) block) variables (last_line ∙ omega arith)
+    declared : Remains [] (with_last here statement) (names ++ name ∷ []) (suc above) lines program → Remains [] here names above (line ∷ lines) program
+    declared (outermost _ _ _ _ block all _ s small statements variables last_line) =
+        outermost here names above (line ∷ lines) (Then statement block) all program (puts lines block all new s) (omega (arith, one))
+        (statements ∙ join_assoc here (Then statement End) block) variables (last_line ∙ omega arith)
 
 -- an If ends
 if_ends : (open_blocks : List Opening) (here : Block) (names : Names) (above : ℕ) (line : Tokens) (lines : List Tokens) (program : Program) (next : Progress) → IsLine names (suc above) line ClosesIf
@@ -168,12 +168,12 @@ reads_on (line ∷ lines) program p e =
 pub program_is_one : (lines : List Tokens) (program : Program) → program_of_lines lines ≡ Some program → AreProgram lines program
 program_is_one lines program e = whole (reads_on lines program start e)
   where
-  whole : Remains [] End [] 0 lines program → AreProgram lines program
-  whole (outermost _ _ _ _ block all _ s small statements variables last_line) =
-      record {
-        names = all;
-        statements = subst (λ b. AreStatements false [] 0 lines b all) (sym statements) s;
-        shallow = subst (λ b. block_depth b ≤ 200) (sym statements) small;
-        variables = variables;
-        last_line = last_line ∙ omega arith;
-      }
+    whole : Remains [] End [] 0 lines program → AreProgram lines program
+    whole (outermost _ _ _ _ block all _ s small statements variables last_line) =
+        record {
+          names = all;
+          statements = subst (λ b. AreStatements false [] 0 lines b all) (sym statements) s;
+          shallow = subst (λ b. block_depth b ≤ 200) (sym statements) small;
+          variables = variables;
+          last_line = last_line ∙ omega arith;
+        }

@@ -139,12 +139,12 @@ comes_newline text (b ∷ rest) p next line e w c =
     let over = λ (lines : List Tokens). let f : read_lines p ((line ++ []) ∷ lines) ≡ read_lines next (continued [] lines) = rw (append-nil line, w, continued_none lines) refl in f in
     record {
       forth = λ lines h.
-        let k = c.forth ([] ∷ lines) (subst (λ x. HasLines (x ∷ rest) ([] ∷ lines)) (sym ten) (newline rest lines h)) in
-        (k.0, k.1, k.2 ∙ over lines);
+          let k = c.forth ([] ∷ lines) (subst (λ x. HasLines (x ∷ rest) ([] ∷ lines)) (sym ten) (newline rest lines h)) in
+          (k.0, k.1, k.2 ∙ over lines);
       back = λ all h.
-        let k = c.back all h in
-        let s = step_at (b ∷ rest) Newline k.0 e k.1 (λ f. cc) in
-        (s.0, s.2, k.2 ∙ ap (λ x. read_lines p (continued line x)) s.1 ∙ over s.0);
+          let k = c.back all h in
+          let s = step_at (b ∷ rest) Newline k.0 e k.1 (λ f. cc) in
+          (s.0, s.2, k.2 ∙ ap (λ x. read_lines p (continued line x)) s.1 ∙ over s.0);
     }
 
 pub comes_token : (text rest : List ℕ) (p : Progress) (line : Tokens) (one : Token) (n : ℕ) → front_of rest ≡ Has one n → Comes text rest p line → Comes text (drop n rest) p (line ++ one ∷ [])
@@ -154,13 +154,13 @@ comes_token text (b ∷ rest) p line one n e c =
     let over = λ (first : Tokens) (lines : List Tokens). ap (λ x. read_lines p (x ∷ lines)) (sym (append_assoc line (one ∷ []) first)) in
     record {
       forth = λ lines h.
-        let s = some_line (drop n (b ∷ rest)) lines h in
-        let k = c.forth ((one ∷ s.0) ∷ s.1) (token b rest n m.1.0 one s.0 s.1 m.0 m.1.1 m.1.2 (subst (HasLines (drop n (b ∷ rest))) s.2 h)) in
-        (k.0, k.1, k.2 ∙ over s.0 s.1 ∙ ap (λ x. read_lines p (continued (line ++ one ∷ []) x)) (sym s.2));
+          let s = some_line (drop n (b ∷ rest)) lines h in
+          let k = c.forth ((one ∷ s.0) ∷ s.1) (token b rest n m.1.0 one s.0 s.1 m.0 m.1.1 m.1.2 (subst (HasLines (drop n (b ∷ rest))) s.2 h)) in
+          (k.0, k.1, k.2 ∙ over s.0 s.1 ∙ ap (λ x. read_lines p (continued (line ++ one ∷ []) x)) (sym s.2));
       back = λ all h.
-        let k = c.back all h in
-        let s = step_at (b ∷ rest) (Has one n) k.0 e k.1 (λ f. cc) in
-        (s.0 ∷ s.1, s.3, k.2 ∙ ap (λ x. read_lines p (continued line x)) s.2 ∙ over s.0 s.1);
+          let k = c.back all h in
+          let s = step_at (b ∷ rest) (Has one n) k.0 e k.1 (λ f. cc) in
+          (s.0 ∷ s.1, s.3, k.2 ∙ ap (λ x. read_lines p (continued line x)) s.2 ∙ over s.0 s.1);
     }
 
 -- no token stands there
@@ -173,9 +173,9 @@ pub refused_line : (text rest : List ℕ) (p : Progress) (line : Tokens) → fro
 refused_line text rest p line e w c = record {
   some = tt;
   each = λ all h.
-    let k = c.back all h in
-    let s = step_at rest Newline k.0 e k.1 (λ f. cc) in
-    k.2 ∙ ap (λ x. read_lines p (continued line x)) s.1 ∙ rw (append-nil line, w) refl;
+      let k = c.back all h in
+      let s = step_at rest Newline k.0 e k.1 (λ f. cc) in
+      k.2 ∙ ap (λ x. read_lines p (continued line x)) s.1 ∙ rw (append-nil line, w) refl;
 }
 
 last_line : (lines : List Tokens) → HasLines [] lines → lines ≡ [] ∷ []
@@ -187,13 +187,13 @@ ends_text text p line found e c =
     record {
       some = has found (k.2 ∙ ap (λ x. read_lines p (x ∷ [])) (append-nil line) ∙ e);
       each = λ all h.
-        let b = c.back all h in
-        b.2 ∙ ap (λ x. read_lines p (continued line x)) (last_line b.0 b.1) ∙ ap (λ x. read_lines p (x ∷ [])) (append-nil line) ∙ e;
+          let b = c.back all h in
+          b.2 ∙ ap (λ x. read_lines p (continued line x)) (last_line b.0 b.1) ∙ ap (λ x. read_lines p (x ∷ [])) (append-nil line) ∙ e;
     }
   where
-  has : (o : Option Program) → program_of_lines (c.forth ([] ∷ []) ends).0 ≡ o → IfSome o (λ program. (lines : List Tokens) × HasLines text lines × (program_of_lines lines ≡ Some program))
-  has None f = tt
-  has (Some program) f = let k = c.forth ([] ∷ []) ends in (k.0, k.1, f)
+    has : (o : Option Program) → program_of_lines (c.forth ([] ∷ []) ends).0 ≡ o → IfSome o (λ program. (lines : List Tokens) × HasLines text lines × (program_of_lines lines ≡ Some program))
+    has None f = tt
+    has (Some program) f = let k = c.forth ([] ∷ []) ends in (k.0, k.1, f)
 
 -- what the code's answer says of the next line
 pub tells : {V : Type 0} (progress : V → Progress) (o : Option V) (next : V) (p : Progress) (slice line : Tokens) → o ≡ Some next → slice ≡ line → option_map progress o ≡ with_tokens p slice → with_tokens p line ≡ Some (progress next)

@@ -163,10 +163,7 @@ fn wanting(
     match token {
         Token::Number(value) => Ok(Some(Standing::Has(leaf(Expr::Literal(*value)), waiting))),
         Token::Name(name) => match place_of(names, name.bytes()) {
-            Some(place) => Ok(Some(Standing::Has(
-                leaf(Expr::Variable(place as u64)),
-                waiting,
-            ))),
+            Some(place) => Ok(Some(Standing::Has(leaf(Expr::Variable(place as u64)), waiting))),
             None => Ok(None),
         },
         Token::Open => {

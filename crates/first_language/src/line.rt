@@ -31,11 +31,7 @@ pub enum Line {
 }
 
 /// A declaration, behind `Dim`.
-fn declaration(
-    alloc: Global,
-    names: &[Text],
-    tokens: &[Token],
-) -> Result<Option<Line>, NoMemory>
+fn declaration(alloc: Global, names: &[Text], tokens: &[Token]) -> Result<Option<Line>, NoMemory>
     ensures { IfOk result (λ line. option_map said_of line ≡ declaration names.now tokens.now) }
 {
     match tokens {
@@ -94,13 +90,7 @@ fn before_then(tokens: &[Token]) -> Option<&[Token]>
     ensures { option_map (λ front. front.now) result ≡ before_then tokens.now }
 {
     match tokens.split_last() {
-        Some((last, front)) => {
-            if is_then(last) {
-                Some(front)
-            } else {
-                None
-            }
-        }
+        Some((last, front)) => { if is_then(last) { Some(front) } else { None } }
         None => None,
     }
 }

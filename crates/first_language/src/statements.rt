@@ -71,7 +71,12 @@ fn with_if(alloc: Global, p: Progress, test: Expr) -> Result<Option<Progress>, N
     ensures value { IfOk result (λ next. option_map progress_of next ≡ with_line (progress_of p) (OpensIf (tree_of test))) }
     ensures above { IfOk result (λ next. IfSome next (λ n. n.above ≡ p.above + 1)) }
 {
-    let Progress { mut open_blocks, here, names, above } = p;
+    let Progress {
+        mut open_blocks,
+        here,
+        names,
+        above,
+    } = p;
     if open_blocks.len() < DEEPEST {
         let above = above + 1;
         open_blocks.push(Opening::InIf(test, above, here))?;
@@ -93,7 +98,12 @@ fn with_while(alloc: Global, p: Progress, test: Expr) -> Result<Option<Progress>
     ensures value { IfOk result (λ next. option_map progress_of next ≡ with_line (progress_of p) (OpensWhile (tree_of test))) }
     ensures above { IfOk result (λ next. IfSome next (λ n. n.above ≡ p.above + 1)) }
 {
-    let Progress { mut open_blocks, here, names, above } = p;
+    let Progress {
+        mut open_blocks,
+        here,
+        names,
+        above,
+    } = p;
     if open_blocks.len() < DEEPEST {
         let above = above + 1;
         open_blocks.push(Opening::InWhile(test, above, here))?;
@@ -136,7 +146,12 @@ fn without_if(p: Progress) -> Result<Option<Progress>, NoMemory>
     ensures value { IfOk result (λ next. option_map progress_of next ≡ without_if (progress_of p) (progress_of p).open_blocks) }
     ensures above { IfOk result (λ next. IfSome next (λ n. n.above ≡ p.above + 1)) }
 {
-    let Progress { mut open_blocks, here, names, above } = p;
+    let Progress {
+        mut open_blocks,
+        here,
+        names,
+        above,
+    } = p;
     match open_blocks.pop() {
         Some(Opening::InIf(test, line, mut before)) => {
             before.push(Stmt::If(test, Items::from_vec(here), line))?;
@@ -158,7 +173,12 @@ fn without_while(p: Progress) -> Result<Option<Progress>, NoMemory>
     ensures value { IfOk result (λ next. option_map progress_of next ≡ without_while (progress_of p) (progress_of p).open_blocks) }
     ensures above { IfOk result (λ next. IfSome next (λ n. n.above ≡ p.above + 1)) }
 {
-    let Progress { mut open_blocks, here, names, above } = p;
+    let Progress {
+        mut open_blocks,
+        here,
+        names,
+        above,
+    } = p;
     match open_blocks.pop() {
         Some(Opening::InWhile(test, line, mut before)) => {
             before.push(Stmt::While(test, Items::from_vec(here), line, above + 1))?;
@@ -216,7 +236,12 @@ pub fn with_tokens(
 pub fn finished(p: Progress) -> Option<Program>
     ensures { option_map program_of result ≡ finished (progress_of p) (progress_of p).open_blocks }
 {
-    let Progress { mut open_blocks, here, names, above } = p;
+    let Progress {
+        mut open_blocks,
+        here,
+        names,
+        above,
+    } = p;
     match open_blocks.pop() {
         Some(_) => None,
         None => Some(Program {

@@ -26,7 +26,7 @@ loop-rest-preserved-in-Newline c =
     let p = progress_of c.loop-rest.progress in
     let next = progress_of c.in-Some.next in
     let one = comes_newline c.args.text.now c.loop-rest.rest.now p next c.loop-rest.line.items (sym c.in_ok-front_of.ensures.value ∙ c.in-Newline.is)
-      (tells progress_of c.in_ok-next-in-Newline.field-0 c.in-Some.next p c.as_slice.result.now c.loop-rest.line.items c.in-Some.is c.as_slice.ensures.value c.in_ok-next-in-Newline.ensures.value) c.loop-rest.invariant.comes in
+    (tells progress_of c.in_ok-next-in-Newline.field-0 c.in-Some.next p c.as_slice.result.now c.loop-rest.line.items c.in-Some.is c.as_slice.ensures.value c.in_ok-next-in-Newline.ensures.value) c.loop-rest.invariant.comes in
     let above = rw c.in-Some.is at c.in_ok-next-in-Newline.ensures.above in
     record {
       comes = subst (λ x. Comes c.args.text.now x next c.new-line-in-Newline.result.items) (sym c.split_at-in-Newline.ensures.back) (subst (λ x. Comes c.args.text.now (drop 1 c.loop-rest.rest.now) next x) (sym c.new-line-in-Newline.ensures.items) one);
