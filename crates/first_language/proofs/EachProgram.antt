@@ -1,9 +1,9 @@
 -- Each program's lines are read.
-use Rattle.std.proofs.Common.{◌≡◌, ℕ, suc, ◌+◌, ◌<◌, ◌≤◌, nat_lt, Bool, true, false, List, [], ◌∷◌, ◌++◌, length, Option, Some, None, max, refl, ap, sym, ◌∙◌, append_assoc, append-nil, length-append, arith}
+use Rattle.std.proofs.Common.{◌≡◌, ℕ, suc, ◌+◌, ◌<◌, ◌≤◌, Bool, true, false, List, [], ◌∷◌, ◌++◌, length, Some, refl, ap, sym, ◌∙◌, append_assoc, append-nil, length-append, arith}
 use Rattle.std.proofs.lemmas.Bool.{lt-ltb}
 use Rattle.std.proofs.Math.Nat.{le-max_left, le-max_right}
-use Rattle.first_language.specs.Tree.{Tree, Statement, Declare, DeclareWith, Assign, Print, If, While, Block, End, Then, Program, statement_depth, block_depth}
-use Rattle.first_language.specs.Grammar.{Tokens, Names, Line, Nothing, Declares, DeclaresWith, Does, OpensIf, ClosesIf, OpensWhile, ClosesWhile, IsLine, AreStatements, none, nothing, declares, declares_with, does, if_block, while_block, AreProgram}
+use Rattle.first_language.specs.Tree.{Statement, Declare, DeclareWith, Assign, Print, If, While, Block, End, Then, Program, statement_depth, block_depth}
+use Rattle.first_language.specs.Grammar.{Tokens, Names, Nothing, Declares, DeclaresWith, Does, OpensIf, ClosesIf, OpensWhile, ClosesWhile, AreStatements, none, nothing, declares, declares_with, does, if_block, while_block, AreProgram}
 use Rattle.first_language.specs.Reading.{joined_blocks, with_last, Opening, InIf, InWhile, Progress, start, read_lines, program_of_lines}
 use Rattle.first_language.proofs.LinesAreOne.{each_line}
 

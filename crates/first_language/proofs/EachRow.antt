@@ -1,15 +1,14 @@
 -- Each expression is read.
-use Rattle.std.proofs.Common.{◌≡◌, ℕ, suc, ◌+◌, ◌<◌, ◌≤◌, nat_le, nat_lt, true, false, List, [], ◌∷◌, ◌++◌, Option, Some, None, max, refl, ap, sym, ◌∙◌, append_assoc, append-nil, arith}
+use Rattle.std.proofs.Common.{◌≡◌, ℕ, suc, ◌<◌, ◌≤◌, List, [], ◌∷◌, ◌++◌, Some, max, refl, ap, sym, ◌∙◌, append_assoc, append-nil, arith}
 use Rattle.std.specs.Prelude.{⊤}
 use Rattle.std.proofs.lemmas.Bool.{le-leb, lt-ltb, lt-leb}
 use Rattle.std.proofs.Math.Nat.{le-max_left, le-max_right}
 use Rattle.first_language.specs.declared.tree.Operator.{Operator}
 use Rattle.first_language.specs.declared.tree.Operator.TheVariants as o
-use Rattle.first_language.specs.declared.token.Token.{Token}
 use Rattle.first_language.specs.declared.token.Token.TheVariants as t
-use Rattle.first_language.specs.Tree.{Tree, Literal, Variable, Parenthesised, Apply, depth}
-use Rattle.first_language.specs.Grammar.{Tokens, Names, place_of, looseness, IsRow, literal, variable, parenthesised, tighter, apply, IsExpression}
-use Rattle.first_language.specs.Reading.{Part, Waiting, Opened, Waits, Standing, Wants, Has, joined, enclosed, reduced, read_row, expression_of}
+use Rattle.first_language.specs.Tree.{Tree, Parenthesised, Apply, depth}
+use Rattle.first_language.specs.Grammar.{Tokens, Names, looseness, IsRow, literal, variable, parenthesised, tighter, apply, IsExpression}
+use Rattle.first_language.specs.Reading.{Part, Waiting, Opened, Waits, Wants, Has, joined, enclosed, reduced, read_row, expression_of}
 
 -- a tree with its depth
 abbrev pub measured : Tree → Part

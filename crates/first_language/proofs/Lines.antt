@@ -1,5 +1,5 @@
 -- What a line says, and what it is read as.
-use Rattle.std.proofs.Common.{◌≡◌, if◌then◌else◌, Bool, true, false, List, [], ◌∷◌, ◌++◌, Option, Some, None, option_map, refl, ap, sym, ◌∙◌}
+use Rattle.std.proofs.Common.{◌≡◌, if◌then◌else◌, Bool, true, false, [], ◌∷◌, ◌++◌, Some, None, option_map, refl, ap, ◌∙◌}
 use Rattle.first_language.specs.declared.token.Token.{Token}
 use Rattle.first_language.specs.Grammar.{Tokens}
 use Rattle.first_language.specs.Reading.{is_then, before_then}

@@ -1,10 +1,10 @@
 -- Each line is read, and what is read as a line is one.
-use Rattle.std.proofs.Common.{◌≡◌, ℕ, Bool, true, false, if◌then◌else◌, List, [], ◌∷◌, ◌++◌, Option, Some, None, option_map, option_and_then, refl, ap, sym, ◌∙◌, subst}
+use Rattle.std.proofs.Common.{◌≡◌, ℕ, true, false, List, [], ◌∷◌, ◌++◌, Some, None, option_map, refl, ap, sym, ◌∙◌, subst}
 use Rattle.first_language.specs.declared.tree.Operator.TheVariants.{Same}
 use Rattle.first_language.specs.declared.token.Token.{Token}
 use Rattle.first_language.specs.declared.token.Token.TheVariants as t
-use Rattle.first_language.specs.Tree.{Tree, Statement, Assign, Print}
-use Rattle.first_language.specs.Grammar.{Tokens, Names, place_of, IsExpression, Line, Nothing, Declares, DeclaresWith, Does, OpensIf, ClosesIf, OpensWhile, ClosesWhile, IsLine, nothing, declares, declares_with, assigns, prints, opens_if, closes_if, opens_while, closes_while}
+use Rattle.first_language.specs.Tree.{Assign, Print}
+use Rattle.first_language.specs.Grammar.{Tokens, Names, place_of, Line, Nothing, Declares, DeclaresWith, Does, OpensIf, ClosesIf, OpensWhile, ClosesWhile, IsLine, nothing, declares, declares_with, assigns, prints, opens_if, closes_if, opens_while, closes_while}
 use Rattle.first_language.specs.Reading.{expression_of, declaration, assignment, is_then, before_then, condition, line_of}
 use Rattle.first_language.proofs.Lines.{before_last}
 use Rattle.first_language.proofs.EachRow.{each_expression}

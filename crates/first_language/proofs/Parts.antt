@@ -1,12 +1,12 @@
 -- What the reader of expressions keeps.
-use Rattle.std.proofs.Common.{◌≡◌, ℕ, ◌+◌, ◌<◌, List, [], ◌∷◌, ◌++◌, Option, Some, None, option_map, max, refl, sym, ◌∙◌, ap, arith}
+use Rattle.std.proofs.Common.{◌≡◌, ℕ, ◌+◌, ◌<◌, List, [], ◌∷◌, ◌++◌, Some, max, refl}
 use Rattle.std.proofs.lemmas.Bool.{lt-ltb}
 use Rattle.first_language.specs.declared.tree.Operator.{Operator}
 use Rattle.first_language.specs.declared.tree.Expr.{Expr}
 use Rattle.first_language.specs.declared.tree.Expr.TheVariants as e
 use Rattle.first_language.specs.declared.expression.Waiting.{Waiting as KeptWaiting}
-use Rattle.first_language.specs.Tree.{Tree, tree_of}
-use Rattle.first_language.specs.Reading.{Part, Waiting, above, enclosed, joined}
+use Rattle.first_language.specs.Tree.{tree_of}
+use Rattle.first_language.specs.Reading.{Part, Waiting, enclosed, joined}
 use Rattle.first_language.specs.Kept.{waiting_of, piled, pile_of}
 use Rattle.first_language.proofs.Trees.{tree_parenthesised, tree_apply}
 

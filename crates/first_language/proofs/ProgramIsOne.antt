@@ -1,7 +1,7 @@
 -- What is read as a program's lines is one's.
-use Rattle.std.proofs.Common.{◌≡◌, ℕ, suc, ◌+◌, ◌-◌, ◌<◌, ◌≤◌, nat_lt, Bool, true, false, if◌then◌else◌, List, [], ◌∷◌, ◌++◌, length, Option, Some, None, option_and_then, max, refl, ap, sym, ◌∙◌, subst, append_assoc, append-nil, length-append, arith}
+use Rattle.std.proofs.Common.{◌≡◌, ℕ, suc, ◌+◌, ◌-◌, ◌<◌, ◌≤◌, nat_lt, Bool, true, false, List, [], ◌∷◌, ◌++◌, length, Option, Some, None, refl, ap, sym, ◌∙◌, subst, append_assoc, length-append, arith}
 use Rattle.std.proofs.lemmas.Bool.{ltb-true}
-use Rattle.first_language.specs.Tree.{Tree, Statement, Declare, DeclareWith, Assign, Print, If, While, Block, End, Then, Program, statement_depth, block_depth}
+use Rattle.first_language.specs.Tree.{Tree, Statement, Declare, DeclareWith, If, While, Block, End, Then, Program, statement_depth, block_depth}
 use Rattle.first_language.specs.Grammar.{Tokens, Names, place_of, Line, Nothing, Declares, DeclaresWith, Does, OpensIf, ClosesIf, OpensWhile, ClosesWhile, IsLine, assigns, prints, AreStatements, none, nothing, declares, declares_with, does, if_block, while_block, AreProgram}
 use Rattle.first_language.specs.Reading.{joined_blocks, with_last, Opening, InIf, InWhile, Progress, line_of, with_name, without_if, without_while, with_line, with_tokens, finished, start, read_lines, program_of_lines}
 use Rattle.first_language.proofs.RowIsOne.{and_then_parts, chosen, some_is}

@@ -1,5 +1,5 @@
 -- From one place of a text to the next.
-use Rattle.std.proofs.Common.{◌≡◌, ◌≢◌, ℕ, suc, ◌<◌, ◌≤◌, ◌^◌, ◌==◌, nat_lt, Bool, true, false, if◌then◌else◌, inl, inr, ◌⊎◌, List, [], ◌∷◌, ◌++◌, length, drop, Option, Some, None, option_map, option_and_then, IfSome, refl, ap, sym, ◌∙◌, subst, append_assoc, append-nil, arith}
+use Rattle.std.proofs.Common.{◌≡◌, ◌≢◌, ℕ, ◌<◌, ◌≤◌, ◌^◌, ◌==◌, nat_lt, Bool, true, false, if◌then◌else◌, inl, inr, List, [], ◌∷◌, ◌++◌, length, drop, Option, Some, None, option_map, IfSome, refl, ap, sym, ◌∙◌, subst, append_assoc, append-nil, arith}
 use Rattle.std.specs.Prelude.{⊤}
 use Rattle.std.proofs.lemmas.Bool.{ne_eqb, ltb-true}
 use Rattle.fb_lexer.specs.declared.token.TokenKind.{TokenKind}
@@ -23,7 +23,7 @@ use Rattle.first_language.specs.Tree.{Program}
 use Rattle.first_language.specs.Grammar.{Tokens, HasLines, ends, newline, white, token}
 use Rattle.first_language.specs.Reading.{Progress, start, with_tokens, finished, read_lines, program_of_lines}
 use Rattle.first_language.specs.Texts.{ComesOf}
-use Rattle.first_language.proofs.RowIsOne.{chosen, some_is}
+use Rattle.first_language.proofs.RowIsOne.{chosen}
 
 -- ---- what stands at a place
 

@@ -1,5 +1,5 @@
 -- What the reader's values stand for.
-use Rattle.std.specs.Prelude.{ℕ, List, [], ◌∷◌}
+use Rattle.std.specs.Prelude.{List, [], ◌∷◌}
 use Rattle.first_language.specs.declared.expression.Part.{Part as KeptPart}
 use Rattle.first_language.specs.declared.expression.Waiting.{Waiting as KeptWaiting}
 use Rattle.first_language.specs.declared.expression.Waiting.TheVariants as w

@@ -1,7 +1,7 @@
 -- What a program's lines are read as.
-use Rattle.std.specs.Prelude.{ℕ, suc, ◌+◌, ◌==◌, max, nat_le, nat_lt, if◌then◌else◌, Bool, true, false, List, [], ◌∷◌, ◌++◌, length, Option, Some, None, option_map, option_and_then}
+use Rattle.std.specs.Prelude.{ℕ, suc, ◌+◌, max, nat_le, nat_lt, if◌then◌else◌, Bool, true, false, List, [], ◌∷◌, ◌++◌, length, Option, Some, None, option_map, option_and_then}
 use Rattle.first_language.specs.declared.tree.Operator.{Operator}
-use Rattle.first_language.specs.declared.tree.Operator.TheVariants.{Times, Quotient, Remainder, Plus, Minus, Same, Other, Less, AtMost, More, AtLeast}
+use Rattle.first_language.specs.declared.tree.Operator.TheVariants.{Same}
 use Rattle.first_language.specs.declared.token.Token.{Token}
 use Rattle.first_language.specs.declared.token.Token.TheVariants as t
 use Rattle.first_language.specs.Grammar.{Tokens, Names, place_of, looseness, Line, Nothing, Declares, DeclaresWith, Does, OpensIf, ClosesIf, OpensWhile, ClosesWhile}

@@ -1,5 +1,5 @@
 -- What a program's text is read as.
-use Rattle.std.specs.Prelude.{ℕ, ◌≡◌, List, Option, Some, None, IfSome}
+use Rattle.std.specs.Prelude.{ℕ, ◌≡◌, List, Option, Some, IfSome}
 use Rattle.first_language.specs.Tree.{Program}
 use Rattle.first_language.specs.Grammar.{Tokens, HasLines}
 use Rattle.first_language.specs.Reading.{program_of_lines}

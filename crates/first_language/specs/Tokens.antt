@@ -1,5 +1,5 @@
 -- What the tokens of FreeBASIC text are in the small language.
-use Rattle.std.specs.Prelude.{ℕ, ◌^◌, nat_lt, if◌then◌else◌, Option, Some, None}
+use Rattle.std.specs.Prelude.{◌^◌, nat_lt, if◌then◌else◌, Option, Some, None}
 use Rattle.fb_lexer.specs.declared.token.Mark.{Mark}
 use Rattle.fb_lexer.specs.declared.token.Mark.TheVariants as marks
 use Rattle.fb_lexer.specs.declared.token.TokenKind.{TokenKind}

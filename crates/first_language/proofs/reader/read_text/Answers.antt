@@ -1,4 +1,4 @@
-use Rattle.std.proofs.Common.{◌≡◌, rules, subst, sym, ◌∙◌, drop, arith}
+use Rattle.std.proofs.Common.{rules, subst, sym, ◌∙◌, drop, arith}
 use Rattle.first_language.specs.Kept.{progress_of}
 use Rattle.first_language.proofs.Texts.{Comes, comes_white, comes_newline, comes_token, refused_front, refused_line, tells, tells_none, ends_some, ends_none}
 use Rattle.first_language.proofs.reader.read_text.Goals as goal

@@ -1,4 +1,4 @@
-use Rattle.std.proofs.Common.{◌≡◌, ◌+◌, IfOk, option_map, subst, sym, ap, ◌∙◌}
+use Rattle.std.proofs.Common.{◌≡◌, ◌+◌, IfOk, option_map, subst, ap, ◌∙◌}
 use Rattle.first_language.specs.Reading.{line_of}
 use Rattle.first_language.specs.Kept.{progress_of}
 use Rattle.first_language.proofs.Stacks.{tokens_say}

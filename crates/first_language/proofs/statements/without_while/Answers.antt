@@ -1,4 +1,3 @@
-use Rattle.std.proofs.Common.{rules}
 use Rattle.first_language.proofs.Stacks.{while_kept}
 use Rattle.first_language.proofs.statements.without_while.Goals as goal
 
