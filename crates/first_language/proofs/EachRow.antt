@@ -1,5 +1,5 @@
 -- Each expression is read.
-use Rattle.std.proofs.Common.{◌≡◌, ℕ, suc, ◌<◌, ◌≤◌, List, [], ◌∷◌, ◌++◌, Some, max, refl, ap, sym, ◌∙◌, append_assoc, append-nil, arith}
+use Rattle.std.proofs.Common.{◌≡◌, ℕ, suc, ◌^◌, ◌<◌, ◌≤◌, List, [], ◌∷◌, ◌++◌, Some, max, refl, ap, sym, ◌∙◌, append_assoc, append-nil, arith}
 use Rattle.std.specs.Prelude.{⊤}
 use Rattle.std.proofs.lemmas.Bool.{le-leb, lt-ltb, lt-leb}
 use Rattle.std.proofs.Math.Nat.{le-max_left, le-max_right}
@@ -71,7 +71,7 @@ module _ (names : Names) where
 
   row_read : (bound : ℕ) (tokens : Tokens) (tree : Tree) (waiting : List Waiting) (rest : Tokens) → IsRow names bound tokens tree → depth tree ≤ 200 → Admits bound waiting → Closes bound rest
       → read_row names (Wants waiting) (tokens ++ rest) ≡ read_row names (Has (measured tree) waiting) rest
-  row_read bound tokens tree waiting rest (literal n) h a c = refl
+  row_read bound tokens tree waiting rest (literal n small) h a c = rw (lt-ltb n (2 ^ 63) small) refl
   row_read bound tokens tree waiting rest (variable name x e) h a c = rw e refl
   row_read bound tokens tree waiting rest (parenthesised inner inside r) h a c =
       ap (read_row names (Wants (Opened ∷ waiting))) (append_assoc inner (t.Close ∷ []) rest)

@@ -5,6 +5,7 @@ pub mod LinesAreOne
 pub mod Parts
 pub mod ProgramIsOne
 pub mod RowIsOne
+pub mod Sound
 pub mod Stacks
 pub mod Texts
 pub mod Trees

@@ -1,5 +1,5 @@
 -- What is read as an expression is one.
-use Rattle.std.proofs.Common.{◌≡◌, ℕ, zero, suc, ◌+◌, ◌-◌, ◌<◌, ◌≤◌, nat_le, nat_lt, Bool, true, false, if◌then◌else◌, List, [], ◌∷◌, ◌++◌, Option, Some, None, option_map, option_and_then, max, refl, ap, sym, ◌∙◌, subst, append_assoc, append-nil, arith}
+use Rattle.std.proofs.Common.{◌≡◌, ℕ, zero, suc, ◌+◌, ◌-◌, ◌^◌, ◌<◌, ◌≤◌, nat_le, nat_lt, Bool, true, false, if◌then◌else◌, List, [], ◌∷◌, ◌++◌, Option, Some, None, option_map, option_and_then, max, refl, ap, sym, ◌∙◌, subst, append_assoc, append-nil, arith}
 use Rattle.std.proofs.lemmas.Bool.{leb-true, leb-false, ltb-true}
 use Rattle.first_language.specs.declared.tree.Operator.{Operator}
 use Rattle.first_language.specs.declared.token.Token.{Token}
@@ -108,7 +108,9 @@ module _ (names : Names) where
 
   -- a token further, where an operand has to come
   wanting_further : (waiting : List Waiting) (tokens : Tokens) (token : Token) (next : Standing) → Held waiting tokens → wanting names waiting token ≡ Some next → Stands next (tokens ++ token ∷ [])
-  wanting_further waiting tokens (t.Number n) next h e = moved (Has (leaf (Literal n)) waiting) next _ _ (has (Literal n) waiting tokens (t.Number n ∷ []) h (literal n) (omega arith)) (some_is _ next e) refl
+  wanting_further waiting tokens (t.Number n) next h e =
+      let w = chosen (nat_lt n (2 ^ 63)) (Has (leaf (Literal n)) waiting) next e in
+      moved (Has (leaf (Literal n)) waiting) next _ _ (has (Literal n) waiting tokens (t.Number n ∷ []) h (literal n (ltb-true _ _ w.0)) (omega arith)) w.1 refl
   wanting_further waiting tokens (t.Name name) next h e =
       let w = map_parts (λ x. Has (leaf (Variable x)) waiting) (place_of names name) next e in
       moved (Has (leaf (Variable w.0)) waiting) next _ _ (has (Variable w.0) waiting tokens (t.Name name ∷ []) h (variable name w.0 w.1) (omega arith)) w.2 refl

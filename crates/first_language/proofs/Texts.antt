@@ -11,7 +11,7 @@ use Rattle.fb_lexer.specs.declared.piece.Piece.TheVariants as pieces
 use Rattle.fb_lexer.specs.declared.piece.Before.TheVariants as before
 use Rattle.fb_lexer.specs.Letters.{is_blank}
 use Rattle.fb_lexer.specs.Pieces.{piece_of}
-use Rattle.fb_lexer.specs.Grammar.{IsLongest, Fits, Begins}
+use Rattle.fb_lexer.specs.Grammar.{IsPiece, Begins}
 use Rattle.fb_lexer.proofs.Begun.{begins_read, begins_if_read}
 use Rattle.first_language.specs.declared.token.Token.{Token}
 use Rattle.first_language.specs.declared.token.Token.TheVariants as tokens
@@ -36,40 +36,27 @@ front_newline text = ap front_with (begins_read before.Other 10 text pieces.Line
 front_white : (b : ℕ) (text : List ℕ) → is_blank b ≡ true → front_of (b ∷ text) ≡ White
 front_white b text h = rw (no_and b h) (ap front_with (begins_read before.Other b text pieces.Blank (inl (h, tt))))
 
-no_rem : (word : Word) (one : Token) → word_token word ≡ Some one → word ≢ KwRem
-no_rem word one h e = let f : word_token KwRem ≡ Some one = ap word_token (sym e) ∙ h in let g : None ≡ Some one = f in cc
-
--- a token of the language is no number that is too big, and no Rem
-fits : (kind : TokenKind) (one : Token) → token_of kind ≡ Some one → Fits kind
-fits (kinds.Name name) one h = tt
-fits (kinds.Word word) one h = no_rem word one h
-fits (kinds.Number value) one h = let w = chosen (nat_lt value (2 ^ 63)) (tokens.Number value) one h in let small : value < 2 ^ 63 = ltb-true _ _ w.0 in omega arith
-fits (kinds.Str text) one h = tt
-fits (kinds.Mark mark) one h = tt
-fits kinds.Colon one h = tt
-fits kinds.LineEnd one h = tt
-
-front_token : (b : ℕ) (text : List ℕ) (n : ℕ) (kind : TokenKind) (one : Token) → b ≢ 38 → IsLongest (b ∷ text) n kind → token_of kind ≡ Some one → front_of (b ∷ text) ≡ Has one n
-front_token b text n kind one other longest is =
-    rw (ne_eqb b 38 other) (ap front_with (begins_read before.Other b text (pieces.Token kind n) (inl ((longest, fits kind one is), tt))) ∙ ap (λ o. with_token o n) is)
+front_token : (b : ℕ) (text : List ℕ) (n : ℕ) (kind : TokenKind) (one : Token) → b ≢ 38 → IsPiece (b ∷ text) (pieces.Token kind n) → token_of kind ≡ Some one → front_of (b ∷ text) ≡ Has one n
+front_token b text n kind one other piece_is is =
+    rw (ne_eqb b 38 other) (ap front_with (begins_read before.Other b text (pieces.Token kind n) (inl (piece_is, tt))) ∙ ap (λ o. with_token o n) is)
 
 -- what a front says of the bytes
 abbrev Means : Front → ℕ → List ℕ → Type 0
 Means Refused b text = ⊤
 Means White b text = is_blank b ≡ true
 Means Newline b text = b ≡ 10
-Means (Has one n) b text = (b ≢ 38) × ((kind : TokenKind) × IsLongest (b ∷ text) n kind × (token_of kind ≡ Some one))
+Means (Has one n) b text = (b ≢ 38) × ((kind : TokenKind) × IsPiece (b ∷ text) (pieces.Token kind n) × (token_of kind ≡ Some one))
 
-means_token : (b : ℕ) (text : List ℕ) (n : ℕ) (kind : TokenKind) (o : Option Token) → b ≢ 38 → IsLongest (b ∷ text) n kind → token_of kind ≡ o → Means (with_token o n) b text
-means_token b text n kind None other longest is = tt
-means_token b text n kind (Some one) other longest is = (other, (kind, longest, is))
+means_token : (b : ℕ) (text : List ℕ) (n : ℕ) (kind : TokenKind) (o : Option Token) → b ≢ 38 → IsPiece (b ∷ text) (pieces.Token kind n) → token_of kind ≡ o → Means (with_token o n) b text
+means_token b text n kind None other piece_is is = tt
+means_token b text n kind (Some one) other piece_is is = (other, (kind, piece_is, is))
 
 means_piece : (b : ℕ) (text : List ℕ) (piece : Piece) → b ≢ 38 → Begins before.Other (b ∷ text) piece → Means (front_with piece) b text
 means_piece b text pieces.Blank other (inl f) = f.0
 means_piece b text pieces.Blank other (inr f) = absurd (let e = f.0 in cc)
 means_piece b text pieces.LineEnd other (inl f) = f.0
 means_piece b text pieces.LineEnd other (inr f) = absurd (let e = f.0 in cc)
-means_piece b text (pieces.Token kind n) other (inl f) = means_token b text n kind (token_of kind) other f.0.0 refl
+means_piece b text (pieces.Token kind n) other (inl f) = means_token b text n kind (token_of kind) other f.0 refl
 means_piece b text (pieces.Token kind n) other (inr f) = absurd (let e = f.0 in cc)
 means_piece b text piece other f = tt
 
@@ -86,7 +73,7 @@ some_line : (text : List ℕ) (lines : List Tokens) → HasLines text lines → 
 some_line text lines ends = ([], [], refl)
 some_line text lines (newline _ rest h) = ([], rest, refl)
 some_line text lines (white b after _ blank h) = some_line after lines h
-some_line text lines (token b after n kind one line rest other longest is h) = (one ∷ line, rest, refl)
+some_line text lines (token b after n kind one line rest other piece_is is h) = (one ∷ line, rest, refl)
 
 abbrev Stepped : Front → List ℕ → List Tokens → Type 0
 Stepped Refused text lines = ⊥
@@ -97,7 +84,7 @@ Stepped (Has one n) text lines = (line : Tokens) × (rest : List Tokens) × (lin
 stepped : (b : ℕ) (text : List ℕ) (lines : List Tokens) → HasLines (b ∷ text) lines → Stepped (front_of (b ∷ text)) (b ∷ text) lines
 stepped b text lines (newline _ rest h) = subst (λ f. Stepped f (10 ∷ text) ([] ∷ rest)) (sym (front_newline text)) (rest, refl, h)
 stepped b text lines (white _ _ _ is h) = subst (λ f. Stepped f (b ∷ text) lines) (sym (front_white b text is)) h
-stepped b text lines (token _ _ n kind one line rest other longest is h) = subst (λ f. Stepped f (b ∷ text) ((one ∷ line) ∷ rest)) (sym (front_token b text n kind one other longest is)) (line, rest, refl, h)
+stepped b text lines (token _ _ n kind one line rest other piece_is is h) = subst (λ f. Stepped f (b ∷ text) ((one ∷ line) ∷ rest)) (sym (front_token b text n kind one other piece_is is)) (line, rest, refl, h)
 
 step_at : (text : List ℕ) (front : Front) (lines : List Tokens) → front_of text ≡ front → HasLines text lines → front ≢ Refused → Stepped front text lines
 step_at [] front lines e h some = absurd (some (sym e))

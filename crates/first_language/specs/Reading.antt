@@ -1,5 +1,5 @@
 -- What a program's lines are read as.
-use Rattle.std.specs.Prelude.{ℕ, suc, ◌+◌, max, nat_le, nat_lt, if◌then◌else◌, Bool, true, false, List, [], ◌∷◌, ◌++◌, length, Option, Some, None, option_map, option_and_then}
+use Rattle.std.specs.Prelude.{ℕ, suc, ◌+◌, ◌^◌, max, nat_le, nat_lt, if◌then◌else◌, Bool, true, false, List, [], ◌∷◌, ◌++◌, length, Option, Some, None, option_map, option_and_then}
 use Rattle.first_language.specs.declared.tree.Operator.{Operator}
 use Rattle.first_language.specs.declared.tree.Operator.TheVariants.{Same}
 use Rattle.first_language.specs.declared.token.Token.{Token}
@@ -60,7 +60,7 @@ closed part (Waits left op ∷ waiting) = None
 
 -- a token further, where an operand has to come
 abbrev pub wanting : Names → List Waiting → Token → Option Standing
-wanting names waiting (t.Number n) = Some (Has (leaf (Literal n)) waiting)
+wanting names waiting (t.Number n) = if nat_lt n (2 ^ 63) then Some (Has (leaf (Literal n)) waiting) else None
 wanting names waiting (t.Name name) = option_map (λ x. Has (leaf (Variable x)) waiting) (place_of names name)
 wanting names waiting t.Open = Some (Wants (Opened ∷ waiting))
 wanting names waiting other = None

@@ -11,5 +11,5 @@ mod tests;
 mod token;
 mod tree;
 
-pub use reader::read_program;
+pub use reader::{programs_are_sound, read_program};
 pub use tree::{Expr, Operator, Program, Stmt};

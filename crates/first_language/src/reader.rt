@@ -1,7 +1,8 @@
 //! A program's text.
-ghost use Rattle.std.specs.Prelude.{◌≡◌, Some, IfOk, IfSome, option_map};
+ghost use Rattle.std.specs.Prelude.{◌≡◌, ℕ, List, Some, IfOk, IfSome, option_map};
 ghost use Rattle.first_language.specs.Tree.{Program as Meant, program_of};
 ghost use Rattle.first_language.specs.Grammar.{IsProgram};
+ghost use Rattle.first_language.specs.Sound.{IsSound};
 ghost use Rattle.first_language.specs.Texts.{ComesOf};
 
 use crate::front::{Front, front_of};
@@ -58,3 +59,9 @@ pub fn read_program(alloc: Global, text: &[u8]) -> Result<Option<Program>, NoMem
 {
     read_text(alloc, text)
 }
+
+/// Each program of a text names declared variables alone, has literals below 2^63, expressions and statements at most 200
+/// deep, and lines of the text.
+pub fn programs_are_sound()
+    ensures { (text : List ℕ) (program : Meant) → IsProgram text program → IsSound program }
+{}
