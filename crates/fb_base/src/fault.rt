@@ -16,10 +16,16 @@ pub enum FaultKind {
     OpenComment,
     /// A number above 2^64 - 1.
     BigNumber,
+    /// Another token is required.
+    Expected,
+    /// Tokens behind a complete statement.
+    ExtraText,
     /// Something that this profile of the language doesn't have.
     OutOfProfile,
     /// More than 65,536 tokens.
     TooManyTokens,
+    /// An expression or a statement deeper than 200.
+    DeepNesting,
 }
 
 /// The first fault of a text, and where it stands.
