@@ -1,9 +1,9 @@
-use Rattle.std.proofs.Common.{◌≡◌, ℕ, zero, suc, ◌<◌, List, ◌++◌, None, refl, sym, ap, ◌∙◌, subst, arith}
+use Rattle.std.proofs.Common.{◌≡◌, ℕ, zero, suc, ◌<◌, List, refl, sym, ap, ◌∙◌, subst, arith}
 use Rattle.thread_system.specs.Effect.{Effect, Silent, Reads, Writes, Turn, Calls, Traps}
 use Rattle.thread_system.specs.Segment.{bad_pointer, End, Calling, Trapped, Spent, Segment, goes_on, reads_badly, writes_badly, takes_turn, lacks_turn, calls, traps}
-use Rattle.thread_system.specs.Simulation.{Simulates, SameEnd}
+use Rattle.thread_system.specs.Simulation.{Simulates}
 use Rattle.thread_system.specs.LoneCalls.{CallResult, Prints, Ends, IsNone, call_result}
-use Rattle.thread_system.specs.Replay.{nothing, bad_code, Finish, Ended, Stopped, Standing, Going, Over, standing_by, written_at, standing_at, Entry, Replays, begins, one_more, SameStanding, both_go, both_over}
+use Rattle.thread_system.specs.Replay.{nothing, Standing, Going, Over, standing_by, written_at, standing_at, Entry, Replays, begins, one_more, SameStanding, both_go}
 use Rattle.thread_system.proofs.Carrying.{carries}
 use Rattle.thread_system.proofs.Determined.{determined}
 use Rattle.thread_system.proofs.Replaying.{same_written, same_after}

@@ -1,4 +1,3 @@
-use Rattle.std.proofs.Common.{◌≡◌, ℕ}
 use Rattle.thread_system.specs.Effect.{Effect, Silent, Reads, Writes, Turn, Calls, Traps}
 use Rattle.thread_system.specs.Simulation.{Quiets, stays, moves, Matches, Simulates}
 use Rattle.thread_system.proofs.Carrying.{quiets_append}
