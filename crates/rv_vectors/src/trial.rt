@@ -77,7 +77,8 @@ pub fn invalid_row(alloc: Global, line: &str) -> Result<bool, AllocError> {
     Ok(decode(word).is_none() && stop == Ok(Stop::Trap(TrapKind::BadCode)))
 }
 
-// A thread over some code, with its operands in registers 1 and 2, all ones in register 4, and so many steps done.
+// A thread over some code, with its operands in registers 1 and 2, all ones in register 4, and so many steps done,
+// each of them by a copy of the thread.
 fn ran(alloc: Global, code: [u32; 4], first: u64, second: u64, steps: u8) -> Option<Cpu> {
     let image = image_of(alloc, code)?;
     let mut cpu = Cpu::new(alloc, 0, 0, 0);
@@ -86,6 +87,7 @@ fn ran(alloc: Global, code: [u32; 4], first: u64, second: u64, steps: u8) -> Opt
     cpu.set_register(Reg::new(4), u64::MAX);
     let mut bus = Nothing;
     for _ in 0..steps {
+        cpu = cpu.copy().ok()?;
         match step(&image, &mut cpu, &mut bus) {
             Ok(Stop::Next | Stop::Turn) => (),
             _ => return None,
