@@ -1,0 +1,4 @@
+pub mod Flow
+pub mod Operations
+pub mod Registers
+pub mod Step
