@@ -1,3 +1,4 @@
 pub mod Memory
 pub mod Straight
 pub mod Frames
+pub mod Places

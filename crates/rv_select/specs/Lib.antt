@@ -1,2 +1,4 @@
+pub mod Emission
 pub mod Places
+pub mod Relation
 pub mod Standing
