@@ -2,3 +2,9 @@ pub mod Memory
 pub mod Straight
 pub mod Frames
 pub mod Places
+pub mod Registers
+pub mod Core
+pub mod Jumps
+pub mod Constants
+pub mod Operators
+pub mod Cases
