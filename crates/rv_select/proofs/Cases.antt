@@ -35,10 +35,10 @@ module _ (h : Machine) (m : MidCode) (t : Target) (known : ℕ → ℕ → Reg �
   abbrev pub Goal : MidState → Cpu → Effect MidState → Type 0
   Goal s c e = Matches (CarriesOut h m t known) (machine_step h) e c
 
-  abbrev code_of_op : MidState → MidOp → List Inst
+  abbrev pub code_of_op : MidState → MidOp → List Inst
   code_of_op s op = op_code (t.place s.here.proc) (t.start s.here.proc) s.here.pos op
 
-  abbrev IsHere : MidState → MidOp → Type 0
+  abbrev pub IsHere : MidState → MidOp → Type 0
   IsHere s op = m.op_at s.here.proc s.here.pos ≡ Some op
 
   -- An operation whose code leaves a value in register 5, and then keeps it.
@@ -56,13 +56,13 @@ module _ (h : Machine) (m : MidCode) (t : Target) (known : ℕ → ℕ → Reg �
       let w = rest_gives h m t known sel s c c1 op d 4 x (t.start p i + length pre) is writes nexts g like (omega arith) five small to.to (stands_back h l (t.start p i) pre keep st) end in
       (c1, to.by, w)
 
-  const_matches : (s : MidState) (c : Cpu) (d : Reg) (n : ℕ) → IsHere s (Const d n) → Core h m t known s c → Goal s c (Silent (sets s d (n % 2 ^ 64)))
+  pub const_matches : (s : MidState) (c : Cpu) (d : Reg) (n : ℕ) → IsHere s (Const d n) → Core h m t known s c → Goal s c (Silent (sets s d (n % 2 ^ 64)))
   const_matches s c d n is g =
       let w = const_runs h 4 n c in
       value_kept s c w.0 (Const d n) d (n % 2 ^ 64) (const_code 5 n) is refl refl (inl refl) g w.1
       (sets_alike (frame_of h s.room) 5 (n % 2 ^ 64) c w.0 (scratch_low 5 (omega arith) (omega arith)) w.2) w.2.value (omega arith)
 
-  copy_matches : (s : MidState) (c : Cpu) (d a : Reg) → IsHere s (Copy d a) → Core h m t known s c → Goal s c (Silent (sets s d (s.here.regs a)))
+  pub copy_matches : (s : MidState) (c : Cpu) (d a : Reg) → IsHere s (Copy d a) → Core h m t known s c → Goal s c (Silent (sets s d (s.here.regs a)))
   copy_matches s c d a is g =
       let f = frame_of h s.room in
       let ka = (sel.flows s.here.proc s.here.pos (Copy d a) is).reads a (inl refl) in
@@ -70,7 +70,7 @@ module _ (h : Machine) (m : MidCode) (t : Target) (known : ℕ → ℕ → Reg �
       value_kept s c w.0 (Copy d a) d (s.here.regs a) (fetch_code 5 (t.place s.here.proc a)) is refl refl (inl refl) g w.1
       (sets_alike f 5 (s.here.regs a) c w.0 (scratch_low 5 (omega arith) (omega arith)) w.2) w.2.value (g.small a)
 
-  both_matches : (s : MidState) (c : Cpu) (op : WordOp) (d a b : Reg) → IsHere s (Both op d a b) → Core h m t known s c → Goal s c (Silent (sets s d (combined op (s.here.regs a) (s.here.regs b))))
+  pub both_matches : (s : MidState) (c : Cpu) (op : WordOp) (d a b : Reg) → IsHere s (Both op d a b) → Core h m t known s c → Goal s c (Silent (sets s d (combined op (s.here.regs a) (s.here.regs b))))
   both_matches s c op d a b is g =
       let f = frame_of h s.room in
       let x = s.here.regs a in
@@ -125,7 +125,7 @@ module _ (h : Machine) (m : MidCode) (t : Target) (known : ℕ → ℕ → Reg �
   divide_by false s c c1 op d a b k e is g to has st small end =
       divide_goes s c c1 op d a b k is g to has (eqb-false (s.here.regs b) 0 e) st small end
 
-  divide_matches : (s : MidState) (c : Cpu) (op : Division) (d a b : Reg) → IsHere s (Divide op d a b) → Core h m t known s c → Goal s c (does s (m.line_of s.here.proc s.here.pos) (Some (Divide op d a b)))
+  pub divide_matches : (s : MidState) (c : Cpu) (op : Division) (d a b : Reg) → IsHere s (Divide op d a b) → Core h m t known s c → Goal s c (does s (m.line_of s.here.proc s.here.pos) (Some (Divide op d a b)))
   divide_matches s c op d a b is g =
       let p = s.here.proc in
       let i = s.here.pos in
@@ -143,7 +143,7 @@ module _ (h : Machine) (m : MidCode) (t : Target) (known : ℕ → ℕ → Reg �
       let end : t.start p (suc i) ≡ k + length pre + 5 + length keep = omega arith in
       divide_by (s.here.regs b == 0) s c w.0 op d a b (k + length pre) refl is g to w.2 (stands_back h l k pre (zero_test ++ (division_inst op ∷ keep)) st) small end
 
-  skip_matches : (s : MidState) (c : Cpu) (j : ℕ) → IsHere s (Skip j) → Core h m t known s c → Goal s c (Silent (mid.moves s j))
+  pub skip_matches : (s : MidState) (c : Cpu) (j : ℕ) → IsHere s (Skip j) → Core h m t known s c → Goal s c (Silent (mid.moves s j))
   skip_matches s c j is g =
       let p = s.here.proc in
       let i = s.here.pos in
@@ -157,7 +157,7 @@ module _ (h : Machine) (m : MidCode) (t : Target) (known : ℕ → ℕ → Reg �
       let core = core_moved h m t known sel s c c1 (Skip j) j is (inl refl) refl g (record { frame = refl; real = λ q r. refl; words = λ a u. refl }) refl in
       (c1, moves c c1 c1 q (stays c1), (c1, stays c1, core))
 
-  back_matches : (s : MidState) (c : Cpu) (j : ℕ) → IsHere s (Back j) → Core h m t known s c → Goal s c (Turn (m.line_of s.here.proc s.here.pos) (mid.moves s j))
+  pub back_matches : (s : MidState) (c : Cpu) (j : ℕ) → IsHere s (Back j) → Core h m t known s c → Goal s c (Turn (m.line_of s.here.proc s.here.pos) (mid.moves s j))
   back_matches s c j is g =
       let p = s.here.proc in
       let i = s.here.pos in
@@ -171,7 +171,7 @@ module _ (h : Machine) (m : MidCode) (t : Target) (known : ℕ → ℕ → Reg �
       let core = core_moved h m t known sel s c c1 (Back j) j is (inl refl) refl g (record { frame = refl; real = λ q r. refl; words = λ a u. refl }) refl in
       (c, c1, stays c, turns, (c1, stays c1, core))
 
-  none_matches : (s : MidState) (c : Cpu) → m.op_at s.here.proc s.here.pos ≡ None → Core h m t known s c → Goal s c (Traps mid.bad_code (m.line_of s.here.proc s.here.pos))
+  pub none_matches : (s : MidState) (c : Cpu) → m.op_at s.here.proc s.here.pos ≡ None → Core h m t known s c → Goal s c (Traps mid.bad_code (m.line_of s.here.proc s.here.pos))
   none_matches s c is g =
       let p = s.here.proc in
       let i = s.here.pos in

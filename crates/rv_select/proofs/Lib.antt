@@ -8,3 +8,4 @@ pub mod Jumps
 pub mod Constants
 pub mod Operators
 pub mod Cases
+pub mod Calls
