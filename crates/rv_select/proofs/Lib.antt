@@ -9,3 +9,9 @@ pub mod Constants
 pub mod Operators
 pub mod Cases
 pub mod Calls
+pub mod Positions
+pub mod Numbering
+pub mod Programs
+pub mod Lines
+pub mod Instructions
+pub mod Images
