@@ -1,0 +1,5 @@
+pub mod Flat
+pub mod Laws
+pub mod Standing
+pub mod Structure
+pub mod Values
