@@ -3,11 +3,12 @@ use Rattle.std.specs.Prelude.{ℕ, List, [], ◌∷◌}
 use Rattle.thread_system.specs.Memory.{Memory}
 use Rattle.thread_system.specs.Segment.{End, Segment}
 use Rattle.thread_system.specs.Simulation.{Matches, SameEnd}
+use Rattle.mid_code.specs.Flow.{AreLawful}
 use Rattle.mid_code.specs.Operations.{MidCode, code_of}
 use Rattle.mid_code.specs.Step.{MidState, mid_step, first_state}
 use Rattle.first_language.specs.Tree.{Program}
 use Rattle.first_lowering.specs.Meaning.{State, step, first_of}
-use Rattle.first_lowering.specs.Lowering.{lowered}
+use Rattle.first_lowering.specs.Lowering.{main_ops, lowered}
 use Rattle.first_lowering.specs.Relation.{Related}
 
 -- at related states each step is matched
@@ -24,3 +25,7 @@ SegmentsKept =
     (m : MidCode) (turns : ℕ) (before after : Memory) (a : State) (s : MidState) (e : End State)
     → Related m a s → Segment step turns before a after e
     → (end : End MidState) × Segment (mid_step m) turns before s after end × SameEnd (Related m) e end
+
+-- a program's middle code keeps what every list of operations keeps
+abbrev pub LoweringIsLawful : Type 0
+LoweringIsLawful = (p : Program) → AreLawful 0 (main_ops p)

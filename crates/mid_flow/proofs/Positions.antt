@@ -9,7 +9,7 @@ pub flat_lies : FlatLies
 flat_lies ops lines Broken ss k more whole out h = absurd whole
 flat_lies ops lines Nothing ss k more whole out h = (nothing_lies ss k, h)
 flat_lies ops lines (Then op line rest) ss k more whole out h =
-    let r = flat_lies ops lines rest ss (suc k) more whole out h.1 in
+    let r = flat_lies ops lines rest ss (suc k) more whole.1 out h.1 in
     (then_lies ss op line rest k k (at k) h.0 r.0, r.1)
 flat_lies ops lines (When test line body rest) ss k more whole out h =
     let last = end_of body (suc k) in

@@ -1,3 +1,4 @@
+pub mod Emission
 pub mod Flat
 pub mod Laws
 pub mod Standing

@@ -1,4 +1,4 @@
-use Rattle.first_lowering.proofs.Beginning.{lowering_starts, segments_kept}
+use Rattle.first_lowering.proofs.Beginning.{lowering_starts, lowering_lawful, segments_kept}
 use Rattle.first_lowering.proofs.Simulation.{lowering_keeps}
 use Rattle.first_lowering.proofs.law.lowering.Goals as goal
 
@@ -10,3 +10,6 @@ returns-clause-starts c = lowering_starts
 
 pub returns-clause-segments : goal.returns-clause-segments
 returns-clause-segments c = segments_kept
+
+pub returns-clause-lawful : goal.returns-clause-lawful
+returns-clause-lawful c = lowering_lawful
