@@ -41,7 +41,7 @@ fn opens(b: u8, c: u8) -> bool
 
 // How many bytes the comment takes whose first two these bytes follow.
 fn rest_of_comment(mut bytes: &[u8]) -> Option<usize>
-    requires { length bytes.now < 2 ^ 32 }
+    requires { length bytes.now < 2 ^ 63 }
     ensures value { result ≡ rest_of_comment 1 2 bytes.entry.now }
     ensures within { IfSome result (λ n. (1 ≤ n) × (n ≤ 2 + length bytes.entry.now)) }
 {
@@ -74,7 +74,7 @@ fn rest_of_comment(mut bytes: &[u8]) -> Option<usize>
 
 /// The piece that begins with a slash, which these bytes follow.
 pub fn slash(bytes: &[u8]) -> Piece
-    requires { length bytes.now < 2 ^ 32 }
+    requires { length bytes.now < 2 ^ 63 }
     ensures value { result ≡ slash bytes.now }
     ensures within { Stands (1 + length bytes.now) result }
 {

@@ -16,7 +16,7 @@ use std::alloc::Global;
 // What begins with the first byte of a text, which others follow.
 #[tactic(auto, unfolding(crate::specs::Pieces::begun))]
 fn begun(alloc: Global, b: u8, rest: &[u8], bytes: &[u8]) -> Result<Piece, NoMemory>
-    requires short { length bytes.now < 2 ^ 32 }
+    requires short { length bytes.now < 2 ^ 63 }
     requires whole { bytes.now ≡ b ∷ rest.now }
     ensures value { IfOk result (λ piece. piece ≡ begun b rest.now) }
     ensures within { IfOk result (λ piece. Stands (1 + length rest.now) piece) }
@@ -65,7 +65,7 @@ fn placed(before: Before, piece: Piece) -> Piece
 
 /// The piece at the front of a text that isn't empty. The error is want of memory.
 pub fn piece_of(alloc: Global, before: Before, bytes: &[u8]) -> Result<Piece, NoMemory>
-    requires short { length bytes.now < 2 ^ 32 }
+    requires short { length bytes.now < 2 ^ 63 }
     ensures value { IfOk result (λ piece. piece ≡ piece_of before bytes.now) }
     ensures within { IfOk result (λ piece. Stands (length bytes.now) piece) }
 {

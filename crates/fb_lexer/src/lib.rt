@@ -15,7 +15,9 @@ mod row;
 mod token;
 mod word;
 
+pub use front::piece_of;
 pub use lexing::{LexErr, Tokens, lex, one_piece, one_row};
+pub use piece::{Before, Piece};
 pub use token::{Mark, Token, TokenKind};
 pub use word::Word;
 

@@ -10,7 +10,7 @@ use std::alloc::Global;
 
 // The text of a literal, from the byte after its first quote on, and how many bytes stand up to its end.
 fn rest_of_literal(alloc: Global, mut bytes: &[u8]) -> Result<Option<(Text, usize)>, NoMemory>
-    requires { length bytes.now < 2 ^ 32 }
+    requires { length bytes.now < 2 ^ 63 }
     ensures value { IfOk result (λ rest. rest ≡ rest_of_literal bytes.entry.now) }
     ensures within { IfOk result (λ rest. IfSome rest (λ r. r.1 ≤ length bytes.entry.now)) }
 {
@@ -41,7 +41,7 @@ fn rest_of_literal(alloc: Global, mut bytes: &[u8]) -> Result<Option<(Text, usiz
 
 /// The piece that begins with a quote, which these bytes follow.
 pub fn literal(alloc: Global, bytes: &[u8]) -> Result<Piece, NoMemory>
-    requires { length bytes.now < 2 ^ 32 }
+    requires { length bytes.now < 2 ^ 63 }
     ensures value { IfOk result (λ piece. piece ≡ literal_of (rest_of_literal bytes.now)) }
     ensures within { IfOk result (λ piece. Stands (1 + length bytes.now) piece) }
 {

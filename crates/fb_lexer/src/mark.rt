@@ -104,7 +104,7 @@ fn base_of(b: u8) -> u8
 
 /// The piece that begins with an &, which these bytes follow.
 pub fn ampersand(bytes: &[u8]) -> Piece
-    requires { length bytes.now < 2 ^ 32 }
+    requires { length bytes.now < 2 ^ 63 }
     ensures value { result ≡ ampersand bytes.now }
     ensures within { Stands (1 + length bytes.now) result }
 {

@@ -39,7 +39,7 @@ fn lowered(alloc: Global, bytes: &[u8]) -> Result<Vec<u8>, NoMemory>
 // The piece of a name in lower case that takes so many bytes, which these follow.
 fn named(name: Vec<u8>, n: usize, rest: &[u8]) -> Piece
     requires some { 1 ≤ n }
-    requires short { n + length rest.now < 2 ^ 33 }
+    requires short { n + length rest.now < 2 ^ 64 }
     ensures value { result ≡ named name.items n rest.now }
     ensures within { Stands (n + length rest.now) result }
 {
@@ -55,7 +55,7 @@ fn named(name: Vec<u8>, n: usize, rest: &[u8]) -> Piece
 /// The piece that begins with a letter or an underscore.
 pub fn name(alloc: Global, bytes: &[u8]) -> Result<Piece, NoMemory>
     requires some { 1 ≤ prefix_len is_in_name bytes.now }
-    requires short { length bytes.now < 2 ^ 32 }
+    requires short { length bytes.now < 2 ^ 63 }
     ensures value { IfOk result (λ piece. piece ≡ name (prefix_len is_in_name bytes.now) bytes.now) }
     ensures within { IfOk result (λ piece. Stands (length bytes.now) piece) }
 {

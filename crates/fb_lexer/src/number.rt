@@ -51,7 +51,7 @@ fn value_of(base: u8, digits: &[u8]) -> Option<u64>
 /// The number whose digits follow so many bytes of it.
 pub fn number(base: u8, before: usize, bytes: &[u8]) -> Piece
     requires base { 0 < base }
-    requires short { before + length bytes.now < 2 ^ 33 }
+    requires short { before + length bytes.now < 2 ^ 64 }
     requires some { 0 < before + prefix_len (is_digit base) bytes.now }
     ensures value { result ≡ number base before bytes.now }
     ensures within { Stands (before + length bytes.now) result }

@@ -1,10 +1,10 @@
 -- Which registers an operation reads and writes, where it may go on, and which registers are live.
-use Rattle.std.specs.Prelude.{◌≡◌, ℕ, suc, ◌<◌, ◌≤◌, ◌⊎◌, List, [], ◌∷◌, length, Option, Some, None}
+use Rattle.std.specs.Prelude.{◌≡◌, ℕ, suc, ◌<◌, ◌≤◌, ◌⊎◌, List, [], ◌∷◌, Option, Some, None}
 use Rattle.mid_code.specs.declared.reg.Reg.{Reg}
 use Rattle.mid_code.specs.declared.op.MidOp.{MidOp}
 use Rattle.mid_code.specs.declared.op.MidOp.TheVariants.{Const, Copy, Both, Divide, Runtime, Skip, Back, Unless}
 use Rattle.mid_code.specs.declared.op.LinedOp.{LinedOp}
-use Rattle.mid_code.specs.Operations.{MidCode, op_in, code_of}
+use Rattle.mid_code.specs.Operations.{MidCode}
 
 -- x is one of a list
 abbrev pub Among : {A : Type 0} → A → List A → Type 0

@@ -4,7 +4,7 @@
 -- that called it. `does` has one clause for each operation; further operations are further clauses. Every value that is
 -- put into a register is below 2 ^ 64: it ends in `% 2 ^ 64`, or is what an operator or a register gives.
 use Rattle.std.specs.Prelude.{ℕ, suc, ◌%◌, ◌^◌, ◌==◌, if◌then◌else◌, List, [], ◌∷◌, Option, Some, None}
-use Rattle.thread_system.specs.Effect.{Effect, Silent, Reads, Writes, Turn, Calls, Traps}
+use Rattle.thread_system.specs.Effect.{Effect, Silent, Turn, Calls, Traps}
 use Rattle.mid_code.specs.declared.reg.Reg.{Reg}
 use Rattle.mid_code.specs.declared.op.MidOp.{MidOp}
 use Rattle.mid_code.specs.declared.op.MidOp.TheVariants.{Const, Copy, Both, Divide, Runtime, Skip, Back, Unless}

@@ -2,7 +2,9 @@
 #![tactic(auto)]
 
 mod op;
+mod program;
 mod reg;
 
 pub use op::{Division, LinedOp, MidOp, WordOp};
+pub use program::{MidProc, MidProgram};
 pub use reg::Reg;

@@ -1,0 +1,6 @@
+pub mod Fronts
+pub mod Grammar
+pub mod Kept
+pub mod Reading
+pub mod Tokens
+pub mod Tree

@@ -1,0 +1,15 @@
+use Rattle.first_lowering.proofs.Beginning.{lowering_starts, lowering_lawful, segments_kept}
+use Rattle.first_lowering.proofs.Simulation.{lowering_keeps}
+use Rattle.first_lowering.proofs.law.lowering.Goals as goal
+
+pub returns-clause-steps : goal.returns-clause-steps
+returns-clause-steps c = lowering_keeps
+
+pub returns-clause-starts : goal.returns-clause-starts
+returns-clause-starts c = lowering_starts
+
+pub returns-clause-segments : goal.returns-clause-segments
+returns-clause-segments c = segments_kept
+
+pub returns-clause-lawful : goal.returns-clause-lawful
+returns-clause-lawful c = lowering_lawful

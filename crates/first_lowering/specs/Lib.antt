@@ -1,0 +1,4 @@
+pub mod Lowering
+pub mod Meaning
+pub mod Promise
+pub mod Relation

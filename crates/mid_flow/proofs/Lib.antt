@@ -1,0 +1,5 @@
+pub mod Constructs
+pub mod Emitting
+pub mod Heights
+pub mod Lawful
+pub mod Positions

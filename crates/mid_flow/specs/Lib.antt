@@ -1,0 +1,6 @@
+pub mod Emission
+pub mod Flat
+pub mod Laws
+pub mod Standing
+pub mod Structure
+pub mod Values
