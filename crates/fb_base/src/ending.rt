@@ -1,4 +1,4 @@
-use crate::fault::Fault;
+use crate::fault::{Fault, TrapKind};
 use crate::text::Text;
 
 /// The stream that a write fault came from.
@@ -44,19 +44,46 @@ pub enum ImageWhy {
 #[derive(Debug, Drop)]
 pub enum Ending {
     /// The program ended, with this status.
-    Ended { status: u8 },
+    Ended {
+        status: u8,
+    },
+    /// A thread was stopped by a trap, at this line of the text.
+    Trapped {
+        kind: TrapKind,
+        line: u32,
+        thread: u32,
+    },
+    /// A thread came to one turn above those that a segment may take, at this line of the text.
+    TurnsSpent {
+        thread: u32,
+        line: u32,
+    },
+    /// As many entries were made as a run may have, and the program goes on.
+    EntriesSpent {
+        limit: u32,
+    },
     /// A stream took no more bytes.
-    WriteFault { sink: WhichSink },
+    WriteFault {
+        sink: WhichSink,
+    },
     /// The command line is faulty.
-    Usage { why: UsageWhy },
+    Usage {
+        why: UsageWhy,
+    },
     /// There is no file of this name.
-    NoFile { name: Text },
+    NoFile {
+        name: Text,
+    },
     /// The file of this name has more bytes than are read.
-    TooLong { name: Text },
+    TooLong {
+        name: Text,
+    },
     /// A file couldn't be read.
     StoreFault,
     /// Memory ran out.
     NoMemory,
     /// The text isn't a program of this profile; its first fault.
-    Refused { fault: Fault },
+    Refused {
+        fault: Fault,
+    },
 }

@@ -9,7 +9,8 @@ use Rattle.rv_isa.specs.declared.inst.Inst.TheVariants.{Addi, Ecall}
 use Rattle.rv_isa.specs.Machine.{Cpu, Machine, moves_on, act, machine_step}
 use Rattle.fb_top.specs.Tree.{Tree, depth, value_of}
 use Rattle.fb_top.specs.Emission.{expr_code, call_code, line_code, program_code}
-use Rattle.fb_top.specs.Printing.{signed_item, prints_of}
+use Rattle.thread_system.specs.Printing.{signed_item}
+use Rattle.fb_top.specs.Printing.{prints_of}
 use Rattle.fb_top.specs.Running.{nothing, ComesTo, IsTrapped, main_end, printed, Prints, Performs, Makes, no_more, one_more}
 use Rattle.fb_top.proofs.Runs.{Stand, stand_front, stand_back, step_at, silent_at, Gives, IsSmall, expr_gives}
 

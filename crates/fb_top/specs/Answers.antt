@@ -74,6 +74,9 @@ pub record IsRefused (text : List ℕ) (fault : Fault) : Type 0 where
 -- How a command that has a text to run ends: what becomes of the output, of its count of faults and of the schedule.
 abbrev pub TextEndsAs : List ℕ → Option (List ℕ) → Option (List ℕ) → ℕ → ℕ → List ℕ → Ending → Type 0
 TextEndsAs text old new faults later schedule (endings.Ended status) = (status ≡ 0) × IsDone text schedule old new
+TextEndsAs text old new faults later schedule (endings.Trapped kind line thread) = ⊥
+TextEndsAs text old new faults later schedule (endings.TurnsSpent thread line) = ⊥
+TextEndsAs text old new faults later schedule (endings.EntriesSpent limit) = ⊥
 TextEndsAs text old new faults later schedule (endings.WriteFault sinks.Out) = Rose faults later × IsCut text schedule old new
 TextEndsAs text old new faults later schedule (endings.WriteFault sinks.Err) = ⊥
 TextEndsAs text old new faults later schedule (endings.Usage why) = ⊥
@@ -92,6 +95,9 @@ pub record RunEndsAs (old new : Devices) (name schedule : List ℕ) (ending : En
 -- How a command that asks to run a file ends.
 abbrev pub FileEndsAs : Devices → Devices → List ℕ → List ℕ → Ending → Type 0
 FileEndsAs old new name schedule (endings.Ended status) = RunEndsAs old new name schedule (endings.Ended status)
+FileEndsAs old new name schedule (endings.Trapped kind line thread) = ⊥
+FileEndsAs old new name schedule (endings.TurnsSpent thread line) = ⊥
+FileEndsAs old new name schedule (endings.EntriesSpent limit) = ⊥
 FileEndsAs old new name schedule (endings.WriteFault sink) = RunEndsAs old new name schedule (endings.WriteFault sink)
 FileEndsAs old new name schedule (endings.Usage why) = ⊥
 FileEndsAs old new name schedule (endings.NoFile named) = (named ≡ name) × IsLoaded old.held name text_limit Absent × NothingRun old.out new.out schedule
@@ -110,6 +116,9 @@ pub record NamedEndsAs (words : List (List ℕ)) (old new : Devices) (schedule :
 -- words ask for, so that each answer comes exactly where its row says.
 abbrev pub EndsAs : List (List ℕ) → Devices → Devices → List ℕ → Ending → Type 0
 EndsAs words old new schedule (endings.Ended status) = NamedEndsAs words old new schedule (endings.Ended status)
+EndsAs words old new schedule (endings.Trapped kind line thread) = ⊥
+EndsAs words old new schedule (endings.TurnsSpent thread line) = ⊥
+EndsAs words old new schedule (endings.EntriesSpent limit) = ⊥
 EndsAs words old new schedule (endings.WriteFault sink) = NamedEndsAs words old new schedule (endings.WriteFault sink)
 EndsAs words old new schedule (endings.Usage Words) = ((name : List ℕ) → AskToRun words name → ⊥) × NothingRun old.out new.out schedule
 EndsAs words old new schedule (endings.NoFile name) = NamedEndsAs words old new schedule (endings.NoFile name)
@@ -124,6 +133,9 @@ IsNamed name too_long (endings.NoFile named) = (too_long ≡ false) × (named �
 IsNamed name too_long (endings.TooLong named) = (too_long ≡ true) × (named ≡ name)
 IsNamed name too_long endings.NoMemory = ⊤
 IsNamed name too_long (endings.Ended status) = ⊥
+IsNamed name too_long (endings.Trapped kind line thread) = ⊥
+IsNamed name too_long (endings.TurnsSpent thread line) = ⊥
+IsNamed name too_long (endings.EntriesSpent limit) = ⊥
 IsNamed name too_long (endings.WriteFault sink) = ⊥
 IsNamed name too_long (endings.Usage why) = ⊥
 IsNamed name too_long endings.StoreFault = ⊥
@@ -132,6 +144,9 @@ IsNamed name too_long (endings.Refused fault) = ⊥
 -- the exit status of each ending
 abbrev pub status_of : Ending → ℕ
 status_of (endings.Ended status) = status
+status_of (endings.Trapped kind line thread) = 80
+status_of (endings.TurnsSpent thread line) = 83
+status_of (endings.EntriesSpent limit) = 84
 status_of (endings.WriteFault sink) = 73
 status_of (endings.Usage why) = 64
 status_of (endings.NoFile name) = 66

@@ -3,7 +3,7 @@ use Rattle.thread_system.specs.Memory.{Memory}
 use Rattle.thread_system.specs.Segment.{Segment, Calling, Trapped}
 use Rattle.rv_isa.specs.Encoding.{inst_of}
 use Rattle.rv_isa.specs.Machine.{Cpu, Machine, machine_step}
-use Rattle.fb_top.specs.Printing.{signed_item}
+use Rattle.thread_system.specs.Printing.{signed_item}
 
 -- The machine of a program's words. Its thread has number 0, so that its own stack begins at 2 ^ 62; the code of this
 -- language belongs to no line.

@@ -1,7 +1,7 @@
 ghost use Rattle.std.specs.Prelude.{◌≡◌, ℕ, ◌+◌, ◌^◌, ◌<◌, ◌≤◌, length, IfOk, OnOk, Some, None, option_map, slice_index};
 ghost use Rattle.rv_isa.specs.Machine.{machine_step};
 ghost use Rattle.host_edge.specs.Streams.{SameTelling};
-ghost use Rattle.fb_top.specs.Printing.{signed_item};
+ghost use Rattle.thread_system.specs.Printing.{signed_item};
 ghost use Rattle.fb_top.specs.Running.{machine_of, printed};
 ghost use Rattle.fb_top.specs.Thread.{Does, cpu_of, registers_of};
 ghost use Rattle.fb_top.specs.Entries.{IsEntry, IsPrepared, IsRun, Reaches, args_of, bytes_to_write};

@@ -49,6 +49,9 @@ fn status(ending: &Ending) -> u8
         Ending::StoreFault => 70,
         Ending::NoMemory => 71,
         Ending::WriteFault { .. } => 73,
+        Ending::Trapped { .. } => 80,
+        Ending::TurnsSpent { .. } => 83,
+        Ending::EntriesSpent { .. } => 84,
     }
 }
 

@@ -1,8 +1,8 @@
-use Rattle.std.proofs.Common.{◌≡◌, ℕ, zero, suc, List, Option, Some, None}
-use Rattle.thread_system.specs.Effect.{Effect, Silent, Reads, Writes, Turn, Calls, Traps}
-use Rattle.thread_system.specs.Memory.{Memory, read, write}
+use Rattle.std.proofs.Common.{ℕ, zero, suc}
+use Rattle.thread_system.specs.Effect.{Effect}
+use Rattle.thread_system.specs.Memory.{Memory}
 use Rattle.thread_system.specs.Segment.{bad_pointer, End, Calling, Trapped, Spent, Segment, goes_on, reads, reads_badly, writes, writes_badly, takes_turn, lacks_turn, calls, traps}
-use Rattle.thread_system.specs.Simulation.{Quiets, stays, moves, Matches, Simulates, SameEnd, same_call, same_trap, same_spent}
+use Rattle.thread_system.specs.Simulation.{Quiets, stays, moves, Simulates, SameEnd, same_call, same_trap, same_spent}
 
 -- silent steps one after another
 pub quiets_append : {S : Type 0} (step : S → Effect S) (a b c : S) → Quiets step a b → Quiets step b c → Quiets step a c

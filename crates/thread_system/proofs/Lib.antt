@@ -1,2 +1,3 @@
 pub mod Carrying
 pub mod Determined
+pub mod Replaying

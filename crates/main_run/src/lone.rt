@@ -1,0 +1,21 @@
+ghost use Rattle.thread_system.specs.Replay.{nothing};
+
+use rv_step::{Bus, BusErr};
+
+/// The memory of a thread that is alone: it shares none, so no access outside of its own stack is done.
+#[derive(Drop)]
+pub struct Lone;
+
+impl Bus for Lone {
+    ghost mem = { λ bus. nothing };
+
+    #[inline]
+    fn load(&mut self, _addr: u64, _width: u8) -> Result<u64, BusErr> {
+        Err(BusErr::Unmapped)
+    }
+
+    #[inline]
+    fn store(&mut self, _addr: u64, _width: u8, _value: u64) -> Result<(), BusErr> {
+        Err(BusErr::Unmapped)
+    }
+}
