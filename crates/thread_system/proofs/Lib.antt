@@ -1,3 +1,5 @@
+pub mod Answering
 pub mod Carrying
 pub mod Determined
 pub mod Replaying
+pub mod Through
