@@ -1,3 +1,4 @@
 pub mod Beginning
 pub mod Emitted
 pub mod Simulation
+pub mod Sound

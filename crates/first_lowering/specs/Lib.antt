@@ -2,3 +2,4 @@ pub mod Lowering
 pub mod Meaning
 pub mod Promise
 pub mod Relation
+pub mod Variables

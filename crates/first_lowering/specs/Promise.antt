@@ -3,10 +3,11 @@ use Rattle.std.specs.Prelude.{ℕ, List, [], ◌∷◌}
 use Rattle.thread_system.specs.Memory.{Memory}
 use Rattle.thread_system.specs.Segment.{End, Segment}
 use Rattle.thread_system.specs.Simulation.{Matches, SameEnd}
-use Rattle.mid_code.specs.Flow.{AreLawful}
+use Rattle.mid_code.specs.Flow.{AreLawful, IsSound}
 use Rattle.mid_code.specs.Operations.{MidCode, code_of}
 use Rattle.mid_code.specs.Step.{MidState, mid_step, first_state}
 use Rattle.first_language.specs.Tree.{Program}
+use Rattle.first_lowering.specs.Variables.{IsDeclared}
 use Rattle.first_lowering.specs.Meaning.{State, step, first_of}
 use Rattle.first_lowering.specs.Lowering.{main_ops, lowered}
 use Rattle.first_lowering.specs.Relation.{Related}
@@ -29,3 +30,8 @@ SegmentsKept =
 -- a program's middle code keeps what every list of operations keeps
 abbrev pub LoweringIsLawful : Type 0
 LoweringIsLawful = (p : Program) → AreLawful 0 (main_ops p)
+
+-- middle code of a program whose variables are declared reads no register before it is written, and its jumps' targets
+-- exist
+abbrev pub LoweringIsSound : Type 0
+LoweringIsSound = (p : Program) → IsDeclared p → IsSound (code_of (lowered p)) 0

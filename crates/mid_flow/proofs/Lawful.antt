@@ -30,7 +30,7 @@ straight_lawful i (Unless test target) straight = absurd straight
 
 pub flat_lawful : FlatIsLawful
 flat_lawful Broken ss k more whole out top h = absurd whole
-flat_lawful Nothing ss k more whole out top h = h
+flat_lawful Nothing ss k more whole out top h = absurd whole
 flat_lawful (Then op line rest) ss k more whole out top h = (straight_lawful k op whole.0, flat_lawful rest ss (suc k) more whole.1 out (omega arith) h)
 flat_lawful (When test line body rest) ss k more whole out top h =
     let last = end_of body (suc k) in

@@ -2,12 +2,12 @@ use Rattle.std.proofs.Common.{suc, ◌∷◌, refl, subst, sym}
 use Rattle.mid_flow.specs.Structure.{Broken, Nothing, Then, When, Loop, LeaveUnless, Round, End, spot}
 use Rattle.mid_flow.specs.Flat.{flat, end_of}
 use Rattle.mid_flow.specs.Laws.{FlatLies}
-use Rattle.mid_flow.specs.Standing.{Hops, at, nothing_lies, then_lies, when_lies, loop_lies, leave_lies, round_lies, end_lies}
+use Rattle.mid_flow.specs.Standing.{Hops, at, then_lies, when_lies, loop_lies, leave_lies, round_lies, end_lies}
 
 -- Flattened code stands where it was flattened to, and what follows stands at its end.
 pub flat_lies : FlatLies
 flat_lies ops lines Broken ss k more whole out h = absurd whole
-flat_lies ops lines Nothing ss k more whole out h = (nothing_lies ss k, h)
+flat_lies ops lines Nothing ss k more whole out h = absurd whole
 flat_lies ops lines (Then op line rest) ss k more whole out h =
     let r = flat_lies ops lines rest ss (suc k) more whole.1 out h.1 in
     (then_lies ss op line rest k k (at k) h.0 r.0, r.1)

@@ -1,5 +1,5 @@
 -- What flattening keeps.
-use Rattle.std.specs.Prelude.{◌≡◌, ℕ, suc, ◌<◌, ◌≤◌, List, [], ◌∷◌, Option}
+use Rattle.std.specs.Prelude.{◌≡◌, ℕ, suc, ◌<◌, ◌≤◌, List, [], ◌∷◌, Option, None}
 use Rattle.mid_code.specs.declared.op.MidOp.{MidOp}
 use Rattle.mid_code.specs.declared.op.MidOp.TheVariants.{Runtime, Skip, Back, Unless}
 use Rattle.mid_code.specs.declared.op.LinedOp.{LinedOp}
@@ -19,7 +19,7 @@ IsStraight op = Unit {0}
 -- no part of the code is broken, and jumps are none of its operations
 abbrev pub IsWhole : Code → Type 0
 IsWhole Broken = ⊥
-IsWhole Nothing = Unit {0}
+IsWhole Nothing = ⊥
 IsWhole (Then op line rest) = IsStraight op × IsWhole rest
 IsWhole (When test line body rest) = IsWhole body × IsWhole rest
 IsWhole (Loop body rest) = IsWhole body × IsWhole rest
@@ -27,9 +27,9 @@ IsWhole (LeaveUnless test line rest) = IsWhole rest
 IsWhole (Round line) = Unit {0}
 IsWhole End = Unit {0}
 
--- the operations stand one after another from a position on
+-- the operations stand one after another from a position on, and the list ends behind them
 abbrev pub At : (ℕ → Option MidOp) → (ℕ → ℕ) → ℕ → List LinedOp → Type 0
-At ops lines k [] = Unit {0}
+At ops lines k [] = ops k ≡ None
 At ops lines k (o ∷ os) = Here ops lines k o.op o.line × At ops lines (suc k) os
 
 abbrev pub FlatLies : Type 0

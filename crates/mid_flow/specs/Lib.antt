@@ -4,3 +4,4 @@ pub mod Laws
 pub mod Standing
 pub mod Structure
 pub mod Values
+pub mod Written

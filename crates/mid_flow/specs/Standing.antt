@@ -1,6 +1,6 @@
 -- That structured code stands at a position of a procedure's list. Jumps may come first wherever code stands, so that
 -- positions are named nowhere else.
-use Rattle.std.specs.Prelude.{◌≡◌, ℕ, suc, List, [], ◌∷◌, Option, Some}
+use Rattle.std.specs.Prelude.{◌≡◌, ℕ, suc, List, [], ◌∷◌, Option, Some, None}
 use Rattle.mid_code.specs.declared.reg.Reg.{Reg}
 use Rattle.mid_code.specs.declared.op.MidOp.{MidOp}
 use Rattle.mid_code.specs.declared.op.MidOp.TheVariants.{Skip, Back, Unless}
@@ -20,7 +20,7 @@ module _ (ops : ℕ → Option MidOp) (lines : ℕ → ℕ) where
 
   -- The code stands at the position, and blocks are left to the spots.
   pub data Lies : List Spot → Code → ℕ → Type 0 where
-    nothing_lies : (ss : List Spot) (k : ℕ) → Lies ss Nothing k
+    nothing_lies : (ss : List Spot) (k : ℕ) → ops k ≡ None → Lies ss Nothing k
     then_lies : (ss : List Spot) (op : MidOp) (line : ℕ) (rest : Code) (k k0 : ℕ) → Hops k k0 → Here ops lines k0 op line → Lies ss rest (suc k0) → Lies ss (Then op line rest) k
     when_lies : (ss : List Spot) (test : Reg) (line : ℕ) (body rest : Code) (k k0 last top : ℕ) → Hops k k0 → Here ops lines k0 (Unless test last) line → Lies (spot last top ∷ ss) body (suc k0) → Lies ss rest last → Lies ss (When test line body rest) k
     loop_lies : (ss : List Spot) (body rest : Code) (k k0 last : ℕ) → Hops k k0 → Lies (spot last k0 ∷ ss) body k0 → Lies ss rest last → Lies ss (Loop body rest) k

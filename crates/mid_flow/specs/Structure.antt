@@ -7,7 +7,7 @@ use Rattle.mid_code.specs.declared.op.MidOp.{MidOp}
 pub data Code : Type 0 where
   -- nothing stands so
   Broken : Code
-  -- the thread doesn't come here, so anything may stand here
+  -- the procedure's list ends
   Nothing : Code
   -- an operation that goes on to the next
   Then : (op : MidOp) (line : ℕ) (rest : Code) → Code

@@ -1,5 +1,6 @@
 use Rattle.first_lowering.proofs.Beginning.{lowering_starts, lowering_lawful, segments_kept}
 use Rattle.first_lowering.proofs.Simulation.{lowering_keeps}
+use Rattle.first_lowering.proofs.Sound.{lowering_sound}
 use Rattle.first_lowering.proofs.law.lowering.Goals as goal
 
 pub returns-clause-steps : goal.returns-clause-steps
@@ -13,3 +14,6 @@ returns-clause-segments c = segments_kept
 
 pub returns-clause-lawful : goal.returns-clause-lawful
 returns-clause-lawful c = lowering_lawful
+
+pub returns-clause-sound : goal.returns-clause-sound
+returns-clause-sound c = lowering_sound
