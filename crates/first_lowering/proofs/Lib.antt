@@ -2,3 +2,4 @@ pub mod Beginning
 pub mod Emitted
 pub mod Simulation
 pub mod Sound
+pub mod SourceEnds
