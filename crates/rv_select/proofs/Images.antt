@@ -26,7 +26,7 @@ use Rattle.rv_select.proofs.Calls.{step_matches}
 pub image_has : (procs : List (List LinedOp)) (thread : ℕ) → IsProgram procs → Has (machine_for procs thread) (selected procs)
 image_has procs thread is = record {
   fetch = λ k i there. word_fetched (selected procs) k i (selected_lined procs is.lawful) there;
-  line = λ k i there. line_found (selected procs) k i there;
+  line = λ k i there. line_found (selected procs) k i (selected_numbered procs is.lines) there;
 }
 
 lawful_at : (procs : List (List LinedOp)) → AllByRecursion (AreLawful 0) procs → (p : ℕ) → AreLawful 0 (ops_of procs p)
@@ -92,7 +92,7 @@ image_rules procs is fits =
     let code = selected procs in
     let size : length (words_of code) ≡ length code = words_length code in
     let long : length procs ≤ length code = code_long 0 0 procs in
-    let lines : HasLines code = lines_rules code (selected_numbered procs is.lines) (omega (arith, is.some)) in
+    let lines : HasLines code = lines_rules code (omega (arith, is.some)) in
     record {
       some_code = omega (arith, is.some);
       code = omega (arith, fits.words);

@@ -15,3 +15,4 @@ pub mod Programs
 pub mod Lines
 pub mod Instructions
 pub mod Images
+pub mod Pieces

@@ -38,6 +38,13 @@ two_code a b = fetch_code 5 a ++ fetch_code 6 b
 abbrev pub jump_offset : ℕ → ℕ → ℕ
 jump_offset from to = (2 ^ 20 + 2 * to - 2 * from) % 2 ^ 20
 
+abbrev pub jump_code : ℕ → ℕ → List Inst
+jump_code from to = Jal 0 (jump_offset from to) ∷ []
+
+-- A jump from a code word to another where a place has 0. It is a jump behind a branch, since a branch reaches less far.
+abbrev pub unless_code : Place → ℕ → ℕ → List Inst
+unless_code p from to = fetch_code 5 p ++ (Bne 5 0 4 ∷ jump_code (from + length (fetch_code 5 p) + 1) to)
+
 -- an operator between registers 5 and 6, into register 5
 abbrev pub word_op_code : WordOp → List Inst
 word_op_code Plus = Add 5 5 6 ∷ []
@@ -80,6 +87,6 @@ op_code place start i (Copy to from) = fetch_code 5 (place from) ++ keep_code (p
 op_code place start i (Both op to left right) = (two_code (place left) (place right) ++ word_op_code op) ++ keep_code (place to) 5
 op_code place start i (Divide op to left right) = (two_code (place left) (place right) ++ zero_test) ++ (division_inst op ∷ keep_code (place to) 5)
 op_code place start i (Runtime number a b c d to) = (arguments_code place a b c d ++ ask_code number) ++ answer_code place to
-op_code place start i (Skip target) = Jal 0 (jump_offset (start i) (start target)) ∷ []
-op_code place start i (Back target) = Jal 0 (jump_offset (start i) (start target)) ∷ []
-op_code place start i (Unless test target) = fetch_code 5 (place test) ++ (Bne 5 0 4 ∷ (Jal 0 (jump_offset (start i + length (fetch_code 5 (place test)) + 1) (start target)) ∷ []))
+op_code place start i (Skip target) = jump_code (start i) (start target)
+op_code place start i (Back target) = jump_code (start i) (start target)
+op_code place start i (Unless test target) = unless_code (place test) (start i) (start target)

@@ -8,6 +8,7 @@ use Rattle.mid_code.specs.Operations.{ops_of, line_in}
 use Rattle.rv_isa.specs.declared.inst.Inst.{Inst}
 use Rattle.rv_isa.specs.declared.inst.Inst.TheVariants.{Lui, Add, Sd, Ebreak}
 use Rattle.rv_select.specs.declared.lined.LinedInst.{LinedInst}
+use Rattle.rv_select.specs.declared.slots.Slots.{Slots}
 use Rattle.rv_select.specs.Places.{Place}
 use Rattle.rv_select.specs.Slots.{place_of, slots_of, FitFrame}
 use Rattle.rv_select.specs.Emission.{op_code}
@@ -19,6 +20,10 @@ lined line inst = record { inst = inst; line = line }
 
 abbrev pub placed : ℕ → List Inst → List LinedInst
 placed line is = map (lined line) is
+
+-- the instructions of an operation, where registers have slots
+abbrev pub op_insts : Slots → (ℕ → ℕ) → ℕ → MidOp → List Inst
+op_insts slots start i op = op_code (place_of slots) start i op
 
 -- How many instructions an operation has. It doesn't depend on where it stands.
 abbrev pub size_of : (Reg → Place) → MidOp → ℕ

@@ -6,3 +6,4 @@ pub mod Places
 pub mod Relation
 pub mod Slots
 pub mod Standing
+pub mod Starts

@@ -1,10 +1,11 @@
 //! Selection: from middle code to the instructions of RV64IM, and to an image of them.
 #![tactic(auto)]
 
+mod emission;
 mod laws;
+mod layout;
 mod lined;
 mod slots;
+mod starts;
 
 pub use laws::selection;
-pub use lined::LinedInst;
-pub use slots::Slots;
