@@ -1,0 +1,4 @@
+pub mod Declared
+pub mod Headline
+pub mod Lowered
+pub mod Source
