@@ -2,5 +2,11 @@
 #![tactic(auto)]
 
 mod compiler;
+pub mod first;
+#[cfg(test)]
+mod tests;
+mod tool;
 
-pub use compiler::CompileErr;
+pub use compiler::{CompileErr, compile};
+pub use main_run::{Solo, solo};
+pub use tool::{Report, tool_call};
