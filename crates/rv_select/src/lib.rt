@@ -5,7 +5,9 @@ mod emission;
 mod laws;
 mod layout;
 mod lined;
+mod program;
 mod slots;
 mod starts;
 
 pub use laws::selection;
+pub use program::select;
