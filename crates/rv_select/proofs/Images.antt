@@ -1,8 +1,8 @@
-use Rattle.std.proofs.Common.{◌≡◌, ℕ, zero, suc, ◌+◌, ◌*◌, ◌^◌, ◌<◌, ◌≤◌, ◌⊎◌, inl, inr, List, [], ◌∷◌, ◌++◌, length, map, refl, ap, sym, ◌∙◌, subst, arith, length-append}
+use Rattle.std.proofs.Common.{◌≡◌, ℕ, zero, suc, ◌+◌, ◌^◌, ◌<◌, ◌≤◌, inl, List, [], ◌∷◌, ◌++◌, length, refl, ap, sym, subst, arith, length-append}
 use Rattle.std.specs.List.{AllByRecursion}
 use Rattle.thread_system.specs.Memory.{Memory}
 use Rattle.thread_system.specs.Segment.{End, Segment}
-use Rattle.thread_system.specs.Simulation.{Matches, Simulates, SameEnd}
+use Rattle.thread_system.specs.Simulation.{Simulates, SameEnd}
 use Rattle.thread_system.proofs.Carrying.{carries}
 use Rattle.fb_image.specs.Format.{KeepsRules}
 use Rattle.fb_image.specs.declared.image.ImageParts.{ImageParts}
@@ -11,14 +11,14 @@ use Rattle.mid_code.specs.Operations.{ops_of, code_of}
 use Rattle.mid_code.specs.Flow.{Live, AreLawful}
 use Rattle.mid_code.specs.Step.{MidState, first_state, mid_step}
 use Rattle.rv_isa.specs.Machine.{Cpu, Machine, machine_step}
-use Rattle.rv_step.specs.State.{stack_of, machine_of, first_cpu}
+use Rattle.rv_step.specs.State.{stack_of, first_cpu}
 use Rattle.rv_select.specs.declared.lined.LinedInst.{LinedInst}
 use Rattle.rv_select.specs.Image.{words_of, lines_from, no_shape, parts_of}
-use Rattle.rv_select.specs.Layout.{placed, entry_code, after_entry, proc_code, code_from, selected, entries_from, target_of_program, Fits}
+use Rattle.rv_select.specs.Layout.{proc_code, code_from, selected, entries_from, target_of_program, Fits}
 use Rattle.rv_select.specs.Laws.{IsProgram, machine_for, Carries}
-use Rattle.rv_select.proofs.Positions.{Has, body_of, start_within}
+use Rattle.rv_select.proofs.Positions.{Has}
 use Rattle.rv_select.proofs.Lines.{line_found, HasLines, lines_rules}
-use Rattle.rv_select.proofs.Instructions.{AreLined, selected_lined, selected_numbered, word_fetched}
+use Rattle.rv_select.proofs.Instructions.{selected_lined, selected_numbered, word_fetched}
 use Rattle.rv_select.proofs.Programs.{is_selected, starts}
 use Rattle.rv_select.proofs.Calls.{step_matches}
 

@@ -30,7 +30,13 @@ fn put_lined(code: &mut Vec<LinedInst>, line: u32, insts: &[Inst]) -> Result<(),
 }
 
 /// The instructions of an operation.
-fn insts_of(alloc: Global, slots: Slots, starts: &Starts, at: u32, op: MidOp) -> Result<Vec<Inst>, NoMemory>
+fn insts_of(
+    alloc: Global,
+    slots: Slots,
+    starts: &Starts,
+    at: u32,
+    op: MidOp,
+) -> Result<Vec<Inst>, NoMemory>
     ensures { IfOk result (λ insts. insts.items ≡ layout.op_insts slots (start_at starts.now) at op) }
 {
     let mut insts = Vec::new(alloc);
@@ -91,7 +97,13 @@ fn op_reaches(starts: &Starts, at: u32, op: MidOp) -> bool
 }
 
 /// Puts the operations behind the code, and an EBREAK. Want of memory counts a jump that doesn't reach.
-fn put_body(alloc: Global, code: &mut Vec<LinedInst>, slots: Slots, starts: &Starts, ops: &[LinedOp]) -> Result<(), NoMemory>
+fn put_body(
+    alloc: Global,
+    code: &mut Vec<LinedInst>,
+    slots: Slots,
+    starts: &Starts,
+    ops: &[LinedOp],
+) -> Result<(), NoMemory>
     requires { length ops.now < 2 ^ 32 }
     ensures code { OnOk result (code.new.items ≡ code.old.items ++ layout.body_code (place_of slots) (start_at starts.now) 0 1 ops.now) }
     ensures reaches { OnOk result (IsTrue (layout.reaches (start_at starts.now) 0 ops.now)) }
@@ -153,7 +165,12 @@ fn entry_insts(alloc: Global, p: usize) -> Result<Vec<Inst>, NoMemory>
 
 /// Puts a procedure behind the code. Want of memory counts code that can't be addressed, and more registers than a
 /// frame has slots.
-fn put_proc(alloc: Global, code: &mut Vec<LinedInst>, p: usize, ops: &[LinedOp]) -> Result<(), NoMemory>
+fn put_proc(
+    alloc: Global,
+    code: &mut Vec<LinedInst>,
+    p: usize,
+    ops: &[LinedOp],
+) -> Result<(), NoMemory>
     ensures code { OnOk result (code.new.items ≡ code.old.items ++ layout.proc_code (length code.old.items) p ops.now) }
     ensures fits { OnOk result (layout.FitsProc (length code.old.items) p ops.now) }
 {

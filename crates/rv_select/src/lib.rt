@@ -8,6 +8,8 @@ mod lined;
 mod program;
 mod slots;
 mod starts;
+#[cfg(test)]
+mod tests;
 
 pub use laws::selection;
 pub use program::select;

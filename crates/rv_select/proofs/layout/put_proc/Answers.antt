@@ -1,4 +1,4 @@
-use Rattle.std.proofs.Common.{◌≡◌, ◌+◌, ◌++◌, length, ap, ◌∙◌, refl, arith}
+use Rattle.std.proofs.Common.{◌≡◌, ◌+◌, ◌++◌, length, ◌∙◌, refl}
 use Rattle.mid_code.specs.Operations.{line_in}
 use Rattle.rv_select.specs.Slots.{FitFrame}
 use Rattle.rv_select.specs.Layout.{placed, entry_code, after_entry}

@@ -1,8 +1,6 @@
-use Rattle.std.proofs.Common.{◌≡◌, ◌≤◌, ◌<◌, ◌^◌, [], length, ap, sym, ◌∙◌, refl, arith}
-use Rattle.fb_image.specs.declared.image.ImageParts.{ImageParts}
-use Rattle.fb_image.specs.Format.{KeepsRules}
+use Rattle.std.proofs.Common.{◌≡◌, ap, ◌∙◌, refl, arith}
 use Rattle.rv_select.specs.Image.{words_of, lines_from}
-use Rattle.rv_select.specs.Layout.{selected, FitFrom, Fits}
+use Rattle.rv_select.specs.Layout.{selected, Fits}
 use Rattle.rv_select.proofs.Images.{rules_at}
 use Rattle.rv_select.proofs.program.select.Goals as goal
 
