@@ -9,7 +9,7 @@ use Rattle.thread_system.specs.Replay.{nothing}
 use Rattle.rv_isa.specs.Encoding.{inst_of}
 use Rattle.rv_isa.specs.declared.inst.Inst.{Inst}
 use Rattle.rv_isa.specs.Machine.{Machine, Cpu, line_at, is_trap_call, fetched, acts, machine_step}
-use Rattle.rv_isa.proofs.Ahead.{StepsFrom, steps_from}
+use Rattle.rv_isa.proofs.Lines.{StepsFrom, steps_from}
 use Rattle.fb_base.specs.declared.fault.TrapKind.{TrapKind}
 use Rattle.fb_base.specs.declared.memory.NoMemory.{NoMemory}
 use Rattle.fb_image.specs.declared.image.ImageParts.{ImageParts}

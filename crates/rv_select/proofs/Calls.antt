@@ -1,4 +1,4 @@
-use Rattle.std.proofs.Common.{◌≡◌, ◌≢◌, ℕ, zero, suc, ◌+◌, ◌*◌, ◌/◌, ◌%◌, ◌^◌, ◌<◌, ◌≤◌, ◌==◌, ◌⊎◌, inl, inr, Bool, true, false, if◌then◌else◌, List, [], ◌∷◌, ◌++◌, length, Option, Some, None, refl, ap, sym, ◌∙◌, subst, arith, length-append, append_assoc}
+use Rattle.std.proofs.Common.{◌≡◌, ◌≢◌, ℕ, suc, ◌+◌, ◌*◌, ◌/◌, ◌%◌, ◌^◌, ◌<◌, ◌≤◌, ◌==◌, inl, inr, Bool, true, false, if◌then◌else◌, List, [], ◌∷◌, ◌++◌, length, Option, Some, None, refl, ap, sym, ◌∙◌, subst, arith, length-append, append_assoc}
 use Rattle.std.proofs.lemmas.Bool.{eqb-true, eqb-false, ne_eqb}
 use Rattle.thread_system.specs.Effect.{Effect, Silent, Reads, Writes, Turn, Calls, Traps}
 use Rattle.thread_system.specs.Simulation.{Quiets, stays, moves, Matches}
@@ -7,20 +7,19 @@ use Rattle.mid_code.specs.declared.reg.Reg.{Reg}
 use Rattle.mid_code.specs.declared.op.MidOp.{MidOp}
 use Rattle.mid_code.specs.declared.op.MidOp.TheVariants.{Const, Copy, Both, Divide, Runtime, Skip, Back, Unless}
 use Rattle.mid_code.specs.Operations.{MidCode}
-use Rattle.mid_code.specs.Flow.{Among, reads_of, writes_of, nexts_of, in_front}
+use Rattle.mid_code.specs.Flow.{Among, in_front}
 use Rattle.mid_code.specs.Step as mid
 use Rattle.mid_code.specs.Step.{MidState, sets, takes, argument, does, mid_step}
-use Rattle.rv_isa.specs.declared.inst.Inst.{Inst}
 use Rattle.rv_isa.specs.declared.inst.Inst.TheVariants.{Jal, Bne, Addi, Ecall}
 use Rattle.rv_isa.specs.Words.{signed_imm}
 use Rattle.rv_isa.specs.Machine.{Cpu, Machine, moves_on, act, machine_step}
-use Rattle.rv_select.specs.Places.{Place, frame_of, fetch_code, keep_code}
-use Rattle.rv_select.specs.Emission.{argument_code, arguments_code, ask_code, answer_code, jump_offset, op_code}
+use Rattle.rv_select.specs.Places.{frame_of, fetch_code}
+use Rattle.rv_select.specs.Emission.{argument_code, arguments_code, ask_code, answer_code, jump_offset}
 use Rattle.rv_select.specs.Standing.{StandsAt}
-use Rattle.rv_select.specs.Relation.{Target, IsNear, Flows, Selected, Core, CarriesOut}
+use Rattle.rv_select.specs.Relation.{Target, IsNear, Selected, Core, CarriesOut}
 use Rattle.rv_select.proofs.Straight.{Sets, sets_reg, Straight, halts, onward, appended, step_at, Goes, straight_goes, stands_front, stands_back}
 use Rattle.rv_select.proofs.Frames.{Loads}
-use Rattle.rv_select.proofs.Places.{Alike, alike_on, alike_none, IsScratch, scratch_low, scratch_argument, scratch_number, sets_alike}
+use Rattle.rv_select.proofs.Places.{Alike, alike_on, alike_none, scratch_low, scratch_argument, scratch_number, sets_alike}
 use Rattle.rv_select.proofs.Core.{core_moved, use_runs, rest_gives}
 use Rattle.rv_select.proofs.Jumps.{at_address, skip_acts, stays_acts, leads_acts, small_imm}
 use Rattle.rv_select.proofs.Cases.{Goal, code_of_op, IsHere, const_matches, copy_matches, both_matches, divide_matches, skip_matches, back_matches, none_matches}
@@ -74,14 +73,17 @@ module _ (h : Machine) (m : MidCode) (t : Target) (known : ℕ → ℕ → Reg �
       let l4 : Alike f c c4 = alike_on f c c3 c4 l3 (sets_alike f 13 (argument s.here.regs e) c3 c4 (scratch_argument 13 (omega arith) (omega arith)) w4.2) in
       let s2 : Sets 11 (argument s.here.regs b) c1 c2 = w2.2 in
       let s3 : Sets 12 (argument s.here.regs d) c2 c3 = w3.2 in
-      let s4 : Sets 13 (argument s.here.regs e) c3 c4 = w4.2 in
-      (c4, appended h _ _ c c1 c4 w1.1 (appended h _ _ c1 c2 c4 w2.1 (appended h _ _ c2 c3 c4 w3.1 w4.1)), record {
-        like = l4;
-        ten = s4.others 10 (omega arith) ∙ s3.others 10 (omega arith) ∙ s2.others 10 (omega arith) ∙ s1.value;
-        eleven = s4.others 11 (omega arith) ∙ s3.others 11 (omega arith) ∙ s2.value;
-        twelve = s4.others 12 (omega arith) ∙ s3.value;
-        thirteen = s4.value;
-      })
+      let s4 : Sets 13 (argument s.here.regs e) c3 c4 = w4.2 in (
+        c4,
+        appended h _ _ c c1 c4 w1.1 (appended h _ _ c1 c2 c4 w2.1 (appended h _ _ c2 c3 c4 w3.1 w4.1)),
+        record {
+          like = l4;
+          ten = s4.others 10 (omega arith) ∙ s3.others 10 (omega arith) ∙ s2.others 10 (omega arith) ∙ s1.value;
+          eleven = s4.others 11 (omega arith) ∙ s3.others 11 (omega arith) ∙ s2.value;
+          twelve = s4.others 12 (omega arith) ∙ s3.value;
+          thirteen = s4.value;
+        },
+      )
 
   -- the call itself
   asks_are : (c : Cpu) (k n a b d e : ℕ) → c.pc ≡ 4 * k → c.regs 17 ≡ n → n < 70 → c.regs 10 ≡ a → c.regs 11 ≡ b → c.regs 12 ≡ d → c.regs 13 ≡ e
@@ -126,7 +128,7 @@ module _ (h : Machine) (m : MidCode) (t : Target) (known : ℕ → ℕ → Reg �
       let at5 : c5.pc ≡ 4 * suc k4 = omega arith in
       let next : ℕ → Cpu = λ v. moves_on c5 10 v in
       let asks = step_at h (suc k4) c5 Ecall _ at5 st4.2.0 (asks_are c5 (suc k4) number (argument s.here.regs a) (argument s.here.regs b) (argument s.here.regs d) (argument s.here.regs e) at5 s5.value small
-          (s5.others 10 (omega arith) ∙ asked.ten) (s5.others 11 (omega arith) ∙ asked.eleven) (s5.others 12 (omega arith) ∙ asked.twelve) (s5.others 13 (omega arith) ∙ asked.thirteen)) in
+      (s5.others 10 (omega arith) ∙ asked.ten) (s5.others 11 (omega arith) ∙ asked.eleven) (s5.others 12 (omega arith) ∙ asked.twelve) (s5.others 13 (omega arith) ∙ asked.thirteen)) in
       let calls = asks ∙ ap (λ n. Calls number (argument s.here.regs a ∷ (argument s.here.regs b ∷ (argument s.here.regs d ∷ (argument s.here.regs e ∷ [])))) n next) st4.2.1 in
       let at6 : c5.pc + 4 ≡ 4 * (k4 + 2) = omega arith in
       let place : suc (suc k4) ≡ k4 + 2 = omega arith in

@@ -1,31 +1,28 @@
-use Rattle.std.proofs.Common.{◌≡◌, ◌≢◌, ℕ, zero, suc, ◌+◌, ◌*◌, ◌%◌, ◌^◌, ◌<◌, ◌≤◌, ◌==◌, ◌⊎◌, inl, inr, Bool, true, false, if◌then◌else◌, List, [], ◌∷◌, ◌++◌, length, Option, Some, None, refl, ap, sym, ◌∙◌, subst, arith, length-append, append_assoc, ◌/◌}
-use Rattle.std.proofs.lemmas.Bool.{lt-ltb, eq-eqb, eqb-true, eqb-false, ne_eqb}
-use Rattle.thread_system.specs.Effect.{Effect, Silent, Reads, Writes, Turn, Calls, Traps}
+use Rattle.std.proofs.Common.{◌≡◌, ◌≢◌, ℕ, suc, ◌+◌, ◌*◌, ◌%◌, ◌^◌, ◌<◌, ◌≤◌, ◌==◌, inl, inr, Bool, true, false, if◌then◌else◌, List, [], ◌∷◌, ◌++◌, length, Some, None, refl, ap, sym, ◌∙◌, subst, arith, length-append, append_assoc, ◌/◌}
+use Rattle.std.proofs.lemmas.Bool.{eqb-true, eqb-false}
+use Rattle.thread_system.specs.Effect.{Effect, Silent, Turn, Traps}
 use Rattle.thread_system.specs.Simulation.{Quiets, stays, moves, Matches}
 use Rattle.thread_system.proofs.Carrying.{quiets_append}
 use Rattle.mid_code.specs.declared.reg.Reg.{Reg}
 use Rattle.mid_code.specs.declared.op.WordOp.{WordOp}
 use Rattle.mid_code.specs.declared.op.Division.{Division}
 use Rattle.mid_code.specs.declared.op.MidOp.{MidOp}
-use Rattle.mid_code.specs.declared.op.MidOp.TheVariants.{Const, Copy, Both, Divide, Runtime, Skip, Back, Unless}
-use Rattle.mid_code.specs.Registers.{Regs, with_reg}
+use Rattle.mid_code.specs.declared.op.MidOp.TheVariants.{Const, Copy, Both, Divide, Skip, Back}
 use Rattle.mid_code.specs.Operations.{MidCode, combined, divided}
-use Rattle.mid_code.specs.Flow.{Among, reads_of, writes_of, nexts_of}
+use Rattle.mid_code.specs.Flow.{Among, writes_of, nexts_of}
 use Rattle.mid_code.specs.Step as mid
 use Rattle.mid_code.specs.Step.{Activation, MidState, sets, takes, argument, does, mid_step}
 use Rattle.rv_isa.specs.declared.inst.Inst.{Inst}
-use Rattle.rv_isa.specs.declared.inst.Inst.TheVariants.{Jal, Bne, Addi, Ecall, Ebreak}
-use Rattle.rv_isa.specs.Words.{signed_imm}
-use Rattle.rv_isa.specs.Machine.{Cpu, Machine, moves_on, act, machine_step}
-use Rattle.rv_select.specs.Places.{Place, frame_of, fetch_code, keep_code}
-use Rattle.rv_select.specs.Emission.{const_code, two_code, word_op_code, division_inst, zero_test, trap_code, argument_code, arguments_code, ask_code, answer_code, jump_offset, op_code}
+use Rattle.rv_isa.specs.declared.inst.Inst.TheVariants.{Bne, Ebreak}
+use Rattle.rv_isa.specs.Machine.{Cpu, Machine, machine_step}
+use Rattle.rv_select.specs.Places.{frame_of, fetch_code, keep_code}
+use Rattle.rv_select.specs.Emission.{const_code, two_code, word_op_code, division_inst, zero_test, op_code}
 use Rattle.rv_select.specs.Standing.{StandsAt}
-use Rattle.rv_select.specs.Relation.{Target, IsNear, Flows, Selected, Core, CarriesOut}
-use Rattle.rv_select.proofs.Straight.{Sets, sets_reg, Straight, halts, onward, appended, step_at, Goes, straight_goes, stands_front, stands_back}
-use Rattle.rv_select.proofs.Frames.{Loads}
-use Rattle.rv_select.proofs.Places.{Alike, alike_on, alike_none, IsScratch, scratch_low, scratch_argument, scratch_number, sets_alike}
+use Rattle.rv_select.specs.Relation.{Target, IsNear, Selected, Core, CarriesOut}
+use Rattle.rv_select.proofs.Straight.{Straight, appended, step_at, Goes, straight_goes, stands_front, stands_back}
+use Rattle.rv_select.proofs.Places.{Alike, alike_on, alike_none, scratch_low, sets_alike}
 use Rattle.rv_select.proofs.Core.{core_moved, use_runs, HasTwo, two_runs, rest_gives}
-use Rattle.rv_select.proofs.Jumps.{at_address, skip_acts, back_acts, stays_acts, leads_acts, small_imm, TrapsAt, trap_goes}
+use Rattle.rv_select.proofs.Jumps.{at_address, skip_acts, back_acts, stays_acts, leads_acts, trap_goes}
 use Rattle.rv_select.proofs.Constants.{const_runs}
 use Rattle.rv_select.proofs.Operators.{combined_small, divided_small, word_op_runs, division_runs}
 

@@ -1,13 +1,12 @@
-use Rattle.std.proofs.Common.{◌≡◌, ◌≢◌, ℕ, zero, suc, ◌+◌, ◌-◌, ◌*◌, ◌/◌, ◌%◌, ◌^◌, ◌<◌, ◌≤◌, Bool, true, false, nat_lt, if◌then◌else◌, List, [], ◌∷◌, ◌++◌, refl, ap, sym, ◌∙◌, arith}
-use Rattle.std.proofs.lemmas.Bool.{lt-ltb, le-ltb, ltb-true, ltb-false}
-use Rattle.std.proofs.lemmas.Nat.{mod-pow-add, pow_pos}
-use Rattle.thread_system.specs.Effect.{Silent}
+use Rattle.std.proofs.Common.{◌≡◌, ℕ, zero, suc, ◌+◌, ◌-◌, ◌*◌, ◌/◌, ◌%◌, ◌^◌, ◌<◌, ◌≤◌, Bool, true, false, nat_lt, if◌then◌else◌, List, [], ◌∷◌, ◌++◌, refl, ◌∙◌, arith}
+use Rattle.std.proofs.lemmas.Bool.{lt-ltb, ltb-true, ltb-false}
+use Rattle.std.proofs.lemmas.Nat.{mod-pow-add}
 use Rattle.rv_isa.specs.declared.inst.Inst.{Inst}
 use Rattle.rv_isa.specs.declared.inst.Inst.TheVariants.{Lui, Addi, Slli}
 use Rattle.rv_isa.specs.Words.{signed_imm, signed_upper}
-use Rattle.rv_isa.specs.Machine.{Cpu, Machine, reg_at, moves_on, act}
+use Rattle.rv_isa.specs.Machine.{Cpu, Machine, moves_on}
 use Rattle.rv_select.specs.Emission.{pieces_code, const_code}
-use Rattle.rv_select.proofs.Straight.{Sets, sets_reg, sets_twice, Straight, halts, onward, appended}
+use Rattle.rv_select.proofs.Straight.{Sets, sets_reg, sets_twice, halts, onward, appended}
 use Rattle.rv_select.proofs.Frames.{Loads}
 
 -- Numbers into registers.
@@ -50,9 +49,11 @@ module _ (h : Machine) where
       let s2 : Sets (suc r) (x * 2048 % 2 ^ 64) c1 c2 = sets_reg c1 r (c1.regs (suc r) * 2 ^ 11) _ (rw w.2.value refl) in
       let c3 : Cpu = moves_on c2 (suc r) (c2.regs (suc r) + signed_imm (n % 2048)) in
       let e : signed_imm (n % 2048) ≡ n % 2048 = rw (lt-ltb (n % 2048) (2 ^ 11) (omega arith)) refl in
-      let s3 : Sets (suc r) y c2 c3 = sets_reg c2 r (c2.regs (suc r) + signed_imm (n % 2048)) y (rw (s2.value, e) value) in
-      (c3, appended h is _ c c1 c3 w.1 (onward _ _ c1 c2 c3 refl refl (onward _ _ c2 c3 c3 refl refl (halts c3))),
-      sets_twice (suc r) _ y c c1 c3 w.2 (sets_twice (suc r) _ y c1 c2 c3 s2 s3))
+      let s3 : Sets (suc r) y c2 c3 = sets_reg c2 r (c2.regs (suc r) + signed_imm (n % 2048)) y (rw (s2.value, e) value) in (
+        c3,
+        appended h is _ c c1 c3 w.1 (onward _ _ c1 c2 c3 refl refl (onward _ _ c2 c3 c3 refl refl (halts c3))),
+        sets_twice (suc r) _ y c c1 c3 w.2 (sets_twice (suc r) _ y c1 c2 c3 s2 s3),
+      )
 
   last_step : (x low y : ℕ) → y ≡ x * 2048 + low → (x % 2 ^ 64 * 2048 % 2 ^ 64 + low) % 2 ^ 64 ≡ y % 2 ^ 64
   last_step x low y is = omega arith

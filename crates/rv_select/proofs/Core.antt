@@ -1,25 +1,21 @@
-use Rattle.std.proofs.Common.{◌≡◌, ◌≢◌, ℕ, zero, suc, ◌+◌, ◌*◌, ◌^◌, ◌<◌, ◌≤◌, ◌⊎◌, inl, inr, List, [], ◌∷◌, ◌++◌, length, Option, Some, None, refl, ap, sym, ◌∙◌, subst, arith, get_or}
-use Rattle.thread_system.specs.Effect.{Effect, Silent, Reads, Writes, Turn, Calls, Traps}
-use Rattle.thread_system.specs.Simulation.{Quiets, stays, moves, Matches}
-use Rattle.thread_system.proofs.Carrying.{quiets_append}
+use Rattle.std.proofs.Common.{◌≡◌, ◌≢◌, ℕ, suc, ◌+◌, ◌*◌, ◌^◌, ◌<◌, ◌≤◌, ◌⊎◌, inl, inr, List, [], ◌∷◌, length, Some, None, refl, ap, sym, ◌∙◌, arith}
 use Rattle.mid_code.specs.declared.reg.Reg.{Reg}
 use Rattle.mid_code.specs.declared.op.MidOp.{MidOp}
-use Rattle.mid_code.specs.Registers.{Regs, is_same, with_reg}
+use Rattle.mid_code.specs.Registers.{Regs, with_reg}
 use Rattle.mid_code.specs.Operations.{MidCode}
-use Rattle.mid_code.specs.Flow.{Among, reads_of, writes_of, nexts_of}
+use Rattle.mid_code.specs.Flow.{Among, writes_of, nexts_of}
 use Rattle.mid_code.specs.Step as mid
 use Rattle.mid_code.specs.Step.{Activation, MidState, sets}
-use Rattle.rv_isa.specs.declared.inst.Inst.{Inst}
 use Rattle.rv_isa.specs.Words.{loaded}
-use Rattle.rv_isa.specs.Machine.{Cpu, Machine, machine_step}
-use Rattle.rv_select.specs.Places.{Place, Slot, Real, IsReal, IsPlace, Apart, holds, slot_off, frame_of, fetch_code, keep_code}
+use Rattle.rv_isa.specs.Machine.{Cpu, Machine}
+use Rattle.rv_select.specs.Places.{Place, Slot, Real, IsPlace, holds, slot_off, frame_of, fetch_code, keep_code}
 use Rattle.rv_select.specs.Emission.{two_code}
 use Rattle.rv_select.specs.Standing.{StandsAt}
-use Rattle.rv_select.specs.Relation.{Target, Flows, Selected, home, AreArguments, Suspended, Callers, Core, CarriesOut}
-use Rattle.rv_select.proofs.Straight.{Sets, Straight, appended, Goes, straight_goes, stands_front, stands_back}
+use Rattle.rv_select.specs.Relation.{Target, Selected, home, Suspended, Callers, Core, CarriesOut}
+use Rattle.rv_select.proofs.Straight.{Straight, appended, straight_goes}
 use Rattle.rv_select.proofs.Frames.{Loads}
-use Rattle.rv_select.proofs.Places.{Alike, alike_on, alike_none, IsScratch, scratch_low, sets_alike, holds_alike, Keeps, IsFrame, fetch_runs, KeepsBy, keep_runs}
-use Rattle.rv_select.proofs.Registers.{AreSame, one, two, same_cases, same_self, with_small}
+use Rattle.rv_select.proofs.Places.{Alike, alike_on, alike_none, scratch_low, sets_alike, holds_alike, Keeps, IsFrame, fetch_runs, keep_runs}
+use Rattle.rv_select.proofs.Registers.{AreSame, one, two, same_cases, with_small}
 
 -- What keeps the relation.
 
@@ -107,12 +103,15 @@ module _ (h : Machine) (m : MidCode) (t : Target) (known : ℕ → ℕ → Reg �
       let c1 : Cpu = w.0 in
       let like1 : Alike f c c1 = sets_alike f 5 (s.here.regs a) c c1 (scratch_low 5 (omega arith) (omega arith)) w.2 in
       let u = use_runs s c c1 5 b g like1 (omega arith) kb in
-      let c2 : Cpu = u.0 in
-      (c2, appended h _ _ c c1 c2 w.1 u.1, record {
-        like = alike_on f c c1 c2 like1 (sets_alike f 6 (s.here.regs b) c1 c2 (scratch_low 6 (omega arith) (omega arith)) u.2);
-        five = u.2.others 5 (omega arith) ∙ w.2.value;
-        six = u.2.value;
-      })
+      let c2 : Cpu = u.0 in (
+        c2,
+        appended h _ _ c c1 c2 w.1 u.1,
+        record {
+          like = alike_on f c c1 c2 like1 (sets_alike f 6 (s.here.regs b) c1 c2 (scratch_low 6 (omega arith) (omega arith)) u.2);
+          five = u.2.others 5 (omega arith) ∙ w.2.value;
+          six = u.2.value;
+        },
+      )
 
   kept_by : (s : MidState) (c c1 last : Cpu) (d : Reg) (x : ℕ) (op : MidOp) (r : Reg) → m.op_at s.here.proc s.here.pos ≡ Some op → writes_of op ≡ Some d → Among (suc s.here.pos) (nexts_of s.here.pos op)
       → Core h m t known s c → Alike (frame_of h s.room) c c1 → Keeps (t.place s.here.proc d) (frame_of h s.room) x c1 last → known s.here.proc (suc s.here.pos) r → AreSame r d
@@ -142,8 +141,11 @@ module _ (h : Machine) (m : MidCode) (t : Target) (known : ℕ → ℕ → Reg �
       let last : Cpu = w.0 in
       let run = straight_goes h (m.line_of p s.here.pos) k (keep_code (t.place p d) (suc r)) c1 last at st w.1 in
       let keeps : Keeps (t.place p d) f x c1 last = w.2 in
-      let to : last.pc ≡ 4 * t.start p (suc s.here.pos) = run.to ∙ ap (λ n. 4 * n) (sym end) in
-      (last, run.by, core_with s c last (suc s.here.pos) (with_reg s.here.regs d x) g to (keeps.frame ∙ like.frame)
-      (λ q kn. kept_by s c c1 last d x op q is writes nexts g like keeps kn (same_cases q d))
-      (λ q. with_small s.here.regs d x small g.small q)
-      (keeps_outside (t.place p d) f x c c1 last like keeps))
+      let to : last.pc ≡ 4 * t.start p (suc s.here.pos) = run.to ∙ ap (λ n. 4 * n) (sym end) in (
+        last,
+        run.by,
+        core_with s c last (suc s.here.pos) (with_reg s.here.regs d x) g to (keeps.frame ∙ like.frame)
+            (λ q kn. kept_by s c c1 last d x op q is writes nexts g like keeps kn (same_cases q d))
+            (λ q. with_small s.here.regs d x small g.small q)
+            (keeps_outside (t.place p d) f x c c1 last like keeps),
+      )

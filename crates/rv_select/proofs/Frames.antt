@@ -1,13 +1,13 @@
-use Rattle.std.proofs.Common.{◌≡◌, ◌≢◌, ℕ, zero, suc, ◌+◌, ◌-◌, ◌*◌, ◌/◌, ◌%◌, ◌^◌, ◌<◌, ◌≤◌, ◌⊎◌, inl, inr, Bool, true, false, nat_lt, if◌then◌else◌, List, [], ◌∷◌, refl, ap, sym, ◌∙◌, arith}
+use Rattle.std.proofs.Common.{◌≡◌, ◌≢◌, ℕ, suc, ◌+◌, ◌-◌, ◌*◌, ◌/◌, ◌%◌, ◌^◌, ◌<◌, ◌≤◌, Bool, true, false, nat_lt, if◌then◌else◌, List, [], ◌∷◌, refl, ap, sym, ◌∙◌, arith}
 use Rattle.std.proofs.lemmas.Bool.{lt-ltb, le-ltb, ltb-true, ltb-false}
 use Rattle.thread_system.specs.Effect.{Silent}
 use Rattle.word64.specs.Words.{extend}
 use Rattle.rv_isa.specs.declared.inst.Inst.{Inst}
-use Rattle.rv_isa.specs.declared.inst.Inst.TheVariants.{Ld, Sd, Lui, Add, Addi}
+use Rattle.rv_isa.specs.declared.inst.Inst.TheVariants.{Ld, Sd, Lui, Add}
 use Rattle.rv_isa.specs.Words.{signed_imm, signed_upper, loaded, stored}
 use Rattle.rv_isa.specs.Machine.{Cpu, Machine, reg_at, moves_on, address, on_stack, act}
 use Rattle.rv_select.specs.Places.{load_code, store_code}
-use Rattle.rv_select.proofs.Memory.{extend_word, loaded_stored, loaded_apart}
+use Rattle.rv_select.proofs.Memory.{extend_word}
 use Rattle.rv_select.proofs.Straight.{Sets, sets_reg, sets_twice, Straight, halts, onward}
 
 -- Words of the own stack, near and far from register 2.

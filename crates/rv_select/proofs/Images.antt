@@ -1,23 +1,24 @@
-use Rattle.std.proofs.Common.{◌≡◌, ℕ, zero, suc, ◌+◌, ◌*◌, ◌^◌, ◌<◌, ◌≤◌, ◌⊎◌, inl, inr, List, [], ◌∷◌, ◌++◌, length, map, refl, ap, sym, ◌∙◌, arith, length-append}
+use Rattle.std.proofs.Common.{◌≡◌, ℕ, zero, suc, ◌+◌, ◌^◌, ◌<◌, ◌≤◌, inl, List, [], ◌∷◌, ◌++◌, length, refl, ap, sym, subst, arith, length-append}
 use Rattle.std.specs.List.{AllByRecursion}
 use Rattle.thread_system.specs.Memory.{Memory}
 use Rattle.thread_system.specs.Segment.{End, Segment}
-use Rattle.thread_system.specs.Simulation.{Matches, Simulates, SameEnd}
+use Rattle.thread_system.specs.Simulation.{Simulates, SameEnd}
 use Rattle.thread_system.proofs.Carrying.{carries}
 use Rattle.fb_image.specs.Format.{KeepsRules}
+use Rattle.fb_image.specs.declared.image.ImageParts.{ImageParts}
 use Rattle.mid_code.specs.declared.op.LinedOp.{LinedOp}
 use Rattle.mid_code.specs.Operations.{ops_of, code_of}
 use Rattle.mid_code.specs.Flow.{Live, AreLawful}
 use Rattle.mid_code.specs.Step.{MidState, first_state, mid_step}
 use Rattle.rv_isa.specs.Machine.{Cpu, Machine, machine_step}
-use Rattle.rv_step.specs.State.{stack_of, machine_of, first_cpu}
+use Rattle.rv_step.specs.State.{stack_of, first_cpu}
 use Rattle.rv_select.specs.declared.lined.LinedInst.{LinedInst}
-use Rattle.rv_select.specs.Image.{words_of, lines_from, parts_of}
-use Rattle.rv_select.specs.Layout.{placed, entry_code, after_entry, proc_code, code_from, selected, entries_from, target_of_program, Fits}
+use Rattle.rv_select.specs.Image.{words_of, lines_from, no_shape, parts_of}
+use Rattle.rv_select.specs.Layout.{proc_code, code_from, selected, entries_from, target_of_program, Fits}
 use Rattle.rv_select.specs.Laws.{IsProgram, machine_for, Carries}
-use Rattle.rv_select.proofs.Positions.{Has, body_of, start_within}
+use Rattle.rv_select.proofs.Positions.{Has}
 use Rattle.rv_select.proofs.Lines.{line_found, HasLines, lines_rules}
-use Rattle.rv_select.proofs.Instructions.{AreLined, selected_lined, selected_numbered, word_fetched}
+use Rattle.rv_select.proofs.Instructions.{selected_lined, selected_numbered, word_fetched}
 use Rattle.rv_select.proofs.Programs.{is_selected, starts}
 use Rattle.rv_select.proofs.Calls.{step_matches}
 
@@ -53,6 +54,9 @@ segments_kept procs thread small is fits turns m after s c e related segment =
     let w = carries (mid_step (code_of procs)) (machine_step (machine_for procs thread)) (Carries procs thread) (steps_kept procs thread small is fits) turns m s c after e related segment in
     (w.end, w.segment, w.same)
 
+parts_are : (procs : List (List LinedOp)) (parts : ImageParts) → parts.code ≡ words_of (selected procs) → parts.entries ≡ entries_from 0 0 procs → parts.shapes ≡ no_shape ∷ [] → parts.literals ≡ [] → parts.lines ≡ lines_from 0 0 (selected procs) → parts ≡ parts_of procs
+parts_are procs parts code entries shapes literals lines = λ i. record { code = code i; entries = entries i; shapes = shapes i; literals = literals i; lines = lines i }
+
 -- ---- the rules of images
 
 words_length : (code : List LinedInst) → length (words_of code) ≡ length code
@@ -87,16 +91,16 @@ code_long k (suc p) (ops ∷ procs) =
     let l : length procs ≤ length rest = code_long (k + length (proc_code k (suc p) ops)) (suc (suc p)) procs in
     omega arith
 
-pub image_rules : (procs : List (List LinedOp)) → IsProgram procs → Fits procs → KeepsRules (parts_of procs)
-image_rules procs is fits =
+pub image_rules : (procs : List (List LinedOp)) → 1 ≤ length procs → Fits procs → KeepsRules (parts_of procs)
+image_rules procs some fits =
     let code = selected procs in
     let size : length (words_of code) ≡ length code = words_length code in
     let long : length procs ≤ length code = code_long 0 0 procs in
-    let lines : HasLines code = lines_rules code (omega (arith, is.some)) in
+    let lines : HasLines code = lines_rules code (omega (arith, some)) in
     record {
-      some_code = omega (arith, is.some);
+      some_code = omega arith;
       code = omega (arith, fits.words);
-      some_entries = omega (arith, entries_length 0 0 procs, is.some);
+      some_entries = omega (arith, entries_length 0 0 procs);
       entries = omega (arith, entries_length 0 0 procs, fits.words);
       each_entry = entries_within 0 0 (length (words_of code)) procs (omega arith);
       some_shapes = omega arith;
@@ -105,3 +109,7 @@ image_rules procs is fits =
       some_lines = lines.some;
       each_line = rw size lines.rules;
     }
+
+-- the same where the parts are those of the program
+pub rules_at : (procs : List (List LinedOp)) (parts : ImageParts) → 1 ≤ length procs → Fits procs → parts.code ≡ words_of (selected procs) → parts.entries ≡ entries_from 0 0 procs → parts.shapes ≡ no_shape ∷ [] → parts.literals ≡ [] → parts.lines ≡ lines_from 0 0 (selected procs) → KeepsRules parts
+rules_at procs parts some fits code entries shapes literals lines = subst KeepsRules (sym (parts_are procs parts code entries shapes literals lines)) (image_rules procs some fits)

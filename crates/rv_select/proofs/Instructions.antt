@@ -1,6 +1,6 @@
-use Rattle.std.proofs.Common.{◌≡◌, ℕ, zero, suc, ◌+◌, ◌-◌, ◌*◌, ◌/◌, ◌%◌, ◌^◌, ◌<◌, ◌≤◌, Bool, true, false, nat_lt, if◌then◌else◌, List, [], ◌∷◌, ◌++◌, length, map, Option, Some, None, option_and_then, slice_get, refl, ap, sym, ◌∙◌, arith, subst, min}
+use Rattle.std.proofs.Common.{◌≡◌, ℕ, zero, suc, ◌+◌, ◌-◌, ◌/◌, ◌%◌, ◌^◌, ◌<◌, ◌≤◌, Bool, true, false, nat_lt, if◌then◌else◌, List, [], ◌∷◌, ◌++◌, length, Option, Some, None, option_and_then, slice_get, refl, ap, arith, subst, min}
 use Rattle.std.specs.List.{AllByRecursion}
-use Rattle.std.proofs.lemmas.Bool.{ltb-true, ltb-false}
+use Rattle.std.proofs.lemmas.Bool.{ltb-true}
 use Rattle.mid_code.specs.declared.reg.Reg.{Reg}
 use Rattle.mid_code.specs.declared.op.WordOp.{WordOp}
 use Rattle.mid_code.specs.declared.op.WordOp.TheVariants.{Plus, Minus, Times, LessS, AtMostS, Same, Other}
@@ -10,17 +10,17 @@ use Rattle.mid_code.specs.declared.op.MidOp.{MidOp}
 use Rattle.mid_code.specs.declared.op.MidOp.TheVariants.{Const, Copy, Both, Divide, Runtime, Skip, Back, Unless}
 use Rattle.mid_code.specs.declared.op.LinedOp.{LinedOp}
 use Rattle.mid_code.specs.Flow.{IsLawful, AreLawful}
-use Rattle.mid_code.specs.Operations.{ops_of, line_in}
+use Rattle.mid_code.specs.Operations.{line_in}
 use Rattle.rv_isa.specs.declared.inst.Inst.{Inst}
-use Rattle.rv_isa.specs.declared.inst.Inst.TheVariants.{Ld, Sd, Lui, Add, Jal, Bne, Addi, Slli, Sltiu, Sub, Slt, Sltu, Mul, Div, Rem, Ecall, Ebreak}
+use Rattle.rv_isa.specs.declared.inst.Inst.TheVariants.{Ld, Sd, Lui, Add, Jal, Addi, Slli}
 use Rattle.rv_isa.specs.Encoding.{word_of, inst_of, IsInst}
 use Rattle.rv_isa.proofs.Again.{read_again}
 use Rattle.rv_select.specs.declared.lined.LinedInst.{LinedInst}
 use Rattle.rv_select.specs.declared.slots.Slots.{Slots}
-use Rattle.rv_select.specs.Places.{Place, Slot, slot_off, load_code, store_code, fetch_code, keep_code}
+use Rattle.rv_select.specs.Places.{Place, slot_off, load_code, store_code, fetch_code, keep_code}
 use Rattle.rv_select.specs.Slots.{slot_of, last_slot, place_of, slots_of}
-use Rattle.rv_select.specs.Emission.{pieces_code, const_code, trap_code, two_code, jump_offset, word_op_code, division_inst, argument_code, answer_code, arguments_code, ask_code, zero_test, op_code}
-use Rattle.rv_select.specs.Layout.{lined, placed, start_of, body_code, entry_code, after_entry, proc_code, code_from, selected}
+use Rattle.rv_select.specs.Emission.{pieces_code, const_code, trap_code, two_code, jump_offset, word_op_code, division_inst, argument_code, answer_code, ask_code, zero_test, op_code}
+use Rattle.rv_select.specs.Layout.{placed, start_of, body_code, entry_code, after_entry, proc_code, code_from, selected}
 use Rattle.rv_select.specs.Image.{words_of}
 use Rattle.rv_select.specs.Laws.{HaveLines}
 use Rattle.rv_select.proofs.Lines.{AreNumbered}

@@ -1,14 +1,13 @@
-use Rattle.std.proofs.Common.{◌≡◌, ◌≢◌, ℕ, zero, suc, ◌+◌, ◌-◌, ◌*◌, ◌/◌, ◌%◌, ◌^◌, ◌<◌, ◌≤◌, ◌==◌, Bool, true, false, nat_lt, if◌then◌else◌, List, [], ◌∷◌, Some, refl, ap, sym, ◌∙◌, arith}
+use Rattle.std.proofs.Common.{◌≡◌, ◌≢◌, ℕ, suc, ◌+◌, ◌-◌, ◌*◌, ◌/◌, ◌%◌, ◌^◌, ◌<◌, ◌≤◌, ◌==◌, Bool, true, false, nat_lt, refl, ap, ◌∙◌, arith}
 use Rattle.std.proofs.lemmas.Bool.{lt-ltb, le-ltb, ltb-true, ltb-false, eq-eqb, ne_eqb}
-use Rattle.thread_system.specs.Effect.{Effect, Silent, Turn, Traps}
+use Rattle.thread_system.specs.Effect.{Silent, Turn, Traps}
 use Rattle.thread_system.specs.Simulation.{Quiets, stays, moves}
-use Rattle.rv_isa.specs.declared.inst.Inst.{Inst}
 use Rattle.rv_isa.specs.declared.inst.Inst.TheVariants.{Jal, Bne, Addi, Ecall}
 use Rattle.rv_isa.specs.Words.{signed_imm, signed_jump, signed_branch}
-use Rattle.rv_isa.specs.Machine.{Cpu, Machine, reg_at, moves_on, line_at, act, machine_step}
+use Rattle.rv_isa.specs.Machine.{Cpu, Machine, moves_on, act, machine_step}
 use Rattle.rv_select.specs.Emission.{jump_offset, trap_code}
 use Rattle.rv_select.specs.Standing.{StandsAt}
-use Rattle.rv_select.proofs.Straight.{step_at, Goes}
+use Rattle.rv_select.proofs.Straight.{step_at}
 
 -- Jumps, branches and traps.
 

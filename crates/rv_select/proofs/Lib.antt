@@ -16,3 +16,4 @@ pub mod Lines
 pub mod Instructions
 pub mod Images
 pub mod Pieces
+pub mod Beginnings

@@ -1,13 +1,13 @@
-use Rattle.std.proofs.Common.{◌≡◌, ◌≢◌, ℕ, zero, suc, ◌+◌, ◌-◌, ◌^◌, ◌<◌, ◌≤◌, ◌⊎◌, inl, inr, List, [], ◌∷◌, Option, Some, None, refl, ap, sym, ◌∙◌, arith, min, max}
+use Rattle.std.proofs.Common.{◌≡◌, ◌≢◌, ℕ, zero, suc, ◌<◌, ◌≤◌, ◌⊎◌, inl, inr, List, [], ◌∷◌, Option, Some, None, ap, sym, ◌∙◌, arith}
 use Rattle.mid_code.specs.declared.reg.Reg.{Reg}
 use Rattle.mid_code.specs.declared.reg.Reg.TheVariants as regs
 use Rattle.mid_code.specs.declared.op.MidOp.{MidOp}
 use Rattle.mid_code.specs.declared.op.MidOp.TheVariants.{Const, Copy, Both, Divide, Runtime, Skip, Back, Unless}
 use Rattle.mid_code.specs.declared.op.LinedOp.{LinedOp}
 use Rattle.mid_code.specs.Operations.{MidCode, op_in}
-use Rattle.mid_code.specs.Flow.{Among, in_front, reads_of, writes_of, nexts_of, Live, reads_now, reads_later}
+use Rattle.mid_code.specs.Flow.{Among, in_front, reads_of, writes_of, Live, reads_now, reads_later}
 use Rattle.rv_select.specs.declared.slots.Slots.{Slots}
-use Rattle.rv_select.specs.Places.{Place, Slot, IsPlace, Apart}
+use Rattle.rv_select.specs.Places.{IsPlace, Apart}
 use Rattle.rv_select.specs.Slots.{slot_of, last_slot, place_of, FitFrame, no_slots, with_slot, with_slot_if, with_op, with_ops, slots_of}
 
 -- Each register of a procedure has a slot of its own.

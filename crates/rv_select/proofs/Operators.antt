@@ -1,5 +1,5 @@
-use Rattle.std.proofs.Common.{◌≡◌, ◌≢◌, ℕ, zero, suc, ◌+◌, ◌-◌, ◌*◌, ◌/◌, ◌%◌, ◌^◌, ◌<◌, ◌≤◌, ◌==◌, Bool, true, false, not, nat_lt, if◌then◌else◌, List, [], ◌∷◌, refl, ap, sym, ◌∙◌, arith}
-use Rattle.std.proofs.lemmas.Bool.{lt-ltb, le-ltb, eq-eqb, eqb-true, eqb-false, ltb-true, ltb-false, ne_eqb}
+use Rattle.std.proofs.Common.{◌≡◌, ◌≢◌, ℕ, zero, suc, ◌+◌, ◌-◌, ◌*◌, ◌/◌, ◌%◌, ◌^◌, ◌<◌, ◌≤◌, ◌==◌, Bool, true, false, not, nat_lt, List, [], ◌∷◌, refl, ap, arith}
+use Rattle.std.proofs.lemmas.Bool.{lt-ltb, le-ltb, eqb-true, eqb-false, ltb-true, ltb-false, ne_eqb}
 use Rattle.std.proofs.Math.Nat.{div-le_self, mod-le}
 use Rattle.std.specs.Prelude.{ℤ, pos, negsuc, neg_ℤ, nat_abs, int_div, int_rem}
 use Rattle.thread_system.specs.Effect.{Silent}
@@ -12,9 +12,9 @@ use Rattle.mid_code.specs.Operations.{truth_word, combined, divided}
 use Rattle.rv_isa.specs.declared.inst.Inst.{Inst}
 use Rattle.rv_isa.specs.declared.inst.Inst.TheVariants.{Addi, Sltiu, Add, Sub, Slt, Sltu, Mul, Div, Rem}
 use Rattle.rv_isa.specs.Words.{signed_imm, truth}
-use Rattle.rv_isa.specs.Machine.{Cpu, Machine, reg_at, moves_on, act}
+use Rattle.rv_isa.specs.Machine.{Cpu, Machine, moves_on, act}
 use Rattle.rv_select.specs.Emission.{word_op_code, division_inst}
-use Rattle.rv_select.proofs.Straight.{Sets, sets_reg, sets_twice, Straight, halts, onward, appended}
+use Rattle.rv_select.proofs.Straight.{sets_reg, sets_twice, halts, onward, appended}
 use Rattle.rv_select.proofs.Frames.{Loads}
 
 -- Operators between registers 5 and 6.

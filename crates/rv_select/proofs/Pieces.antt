@@ -1,4 +1,4 @@
-use Rattle.std.proofs.Common.{◌≡◌, ℕ, zero, suc, ◌-◌, ◌/◌, ◌%◌, ◌<◌, ◌≤◌, List, [], ◌∷◌, ◌++◌, refl, arith, sub-one}
+use Rattle.std.proofs.Common.{◌≡◌, ℕ, zero, suc, ◌-◌, ◌/◌, ◌%◌, ◌<◌, ◌≤◌, [], ◌∷◌, ◌++◌, refl, arith, sub-one}
 use Rattle.std.proofs.lemmas.Bool.{le-ltb}
 use Rattle.rv_isa.specs.declared.inst.Inst.TheVariants.{Addi, Slli}
 use Rattle.rv_select.specs.Emission.{pieces_code}

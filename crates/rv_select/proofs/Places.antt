@@ -1,14 +1,13 @@
-use Rattle.std.proofs.Common.{◌≡◌, ◌≢◌, ℕ, zero, suc, ◌+◌, ◌-◌, ◌*◌, ◌/◌, ◌%◌, ◌^◌, ◌<◌, ◌≤◌, ◌⊎◌, inl, inr, Bool, true, false, nat_lt, if◌then◌else◌, List, [], ◌∷◌, refl, ap, sym, ◌∙◌, arith}
-use Rattle.std.proofs.lemmas.Bool.{lt-ltb, le-ltb, ltb-true, ltb-false}
-use Rattle.thread_system.specs.Effect.{Silent}
+use Rattle.std.proofs.Common.{◌≡◌, ◌≢◌, ℕ, zero, suc, ◌+◌, ◌^◌, ◌<◌, ◌≤◌, ◌⊎◌, inl, inr, Bool, true, false, nat_lt, List, [], ◌∷◌, refl, ap, sym, ◌∙◌, arith}
+use Rattle.std.proofs.lemmas.Bool.{ltb-true, ltb-false}
 use Rattle.rv_isa.specs.declared.inst.Inst.{Inst}
 use Rattle.rv_isa.specs.declared.inst.Inst.TheVariants.{Addi}
-use Rattle.rv_isa.specs.Words.{signed_imm, loaded, stored}
-use Rattle.rv_isa.specs.Machine.{Cpu, Machine, reg_at, moves_on, act}
-use Rattle.rv_select.specs.Places.{Place, Slot, Real, IsReal, IsPlace, Apart, holds, slot_off, frame_of, fetch_code, keep_code}
+use Rattle.rv_isa.specs.Words.{signed_imm, loaded}
+use Rattle.rv_isa.specs.Machine.{Cpu, Machine, moves_on}
+use Rattle.rv_select.specs.Places.{Place, Slot, Real, IsReal, IsPlace, Apart, holds, slot_off, fetch_code, keep_code}
 use Rattle.rv_select.proofs.Memory.{loaded_stored, loaded_apart}
-use Rattle.rv_select.proofs.Straight.{Sets, sets_reg, sets_twice, Straight, halts, onward}
-use Rattle.rv_select.proofs.Frames.{Reaches, Loads, load_runs, Puts, Stores, store_runs}
+use Rattle.rv_select.proofs.Straight.{Sets, sets_reg, Straight, halts, onward}
+use Rattle.rv_select.proofs.Frames.{Reaches, Loads, load_runs, Puts, store_runs}
 
 -- What a place has comes into a scratch register, and back.
 
@@ -110,24 +109,30 @@ module _ (h : Machine) where
   keep_real zero c f r x real is small = absurd (omega (arith, real.from))
   keep_real (suc q) c f r x real is small =
       let next : Cpu = moves_on c (suc q) (c.regs (suc r) + signed_imm 0) in
-      let s : Sets (suc q) x c next = sets_reg c q (c.regs (suc r) + signed_imm 0) x (rw is (omega arith)) in
-      (next, onward _ _ c next next refl refl (halts next), record {
-        value = s.value;
-        others = λ p place apart. moved_others p f (suc q) x c next s place apart;
-        words = λ a out. ap (λ b. loaded b a 8) s.bytes;
-        frame = s.others 2 (let l : 8 ≤ suc q = real.from in omega arith);
-      })
+      let s : Sets (suc q) x c next = sets_reg c q (c.regs (suc r) + signed_imm 0) x (rw is (omega arith)) in (
+        next,
+        onward _ _ c next next refl refl (halts next),
+        record {
+          value = s.value;
+          others = λ p place apart. moved_others p f (suc q) x c next s place apart;
+          words = λ a out. ap (λ b. loaded b a 8) s.bytes;
+          frame = s.others 2 (let l : 8 ≤ suc q = real.from in omega arith);
+        },
+      )
 
   -- a scratch register's value into a place
   pub keep_runs : (p : Place) (c : Cpu) (f r x : ℕ) → IsPlace p → IsFrame h f → c.regs 2 ≡ f → suc r ≢ 7 → c.regs (suc r) ≡ x → x < 2 ^ 64 → KeepsBy p f x c (keep_code p (suc r))
   keep_runs (Slot k) c f r x place frame sp other is small =
       let w = store_runs h c f (slot_off k) r x (slot_reaches f k frame place) sp other is in
       let last : Cpu = w.0 in
-      let puts : Puts h (f + slot_off k) x c last = w.2 in
-      (last, w.1, record {
-        value = ap (λ b. loaded b (f + slot_off k) 8) puts.bytes ∙ loaded_stored c.bytes (f + slot_off k) x small;
-        others = λ q is_place apart. stored_others q f k x c last puts is_place apart;
-        words = λ a out. ap (λ b. loaded b a 8) puts.bytes ∙ loaded_apart c.bytes (f + slot_off k) 8 x a (outside a f k place out);
-        frame = puts.others 2 (omega arith);
-      })
+      let puts : Puts h (f + slot_off k) x c last = w.2 in (
+        last,
+        w.1,
+        record {
+          value = ap (λ b. loaded b (f + slot_off k) 8) puts.bytes ∙ loaded_stored c.bytes (f + slot_off k) x small;
+          others = λ q is_place apart. stored_others q f k x c last puts is_place apart;
+          words = λ a out. ap (λ b. loaded b a 8) puts.bytes ∙ loaded_apart c.bytes (f + slot_off k) 8 x a (outside a f k place out);
+          frame = puts.others 2 (omega arith);
+        },
+      )
   keep_runs (Real q) c f r x place frame sp other is small = keep_real q c f r x place is small

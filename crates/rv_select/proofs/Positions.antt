@@ -1,9 +1,9 @@
-use Rattle.std.proofs.Common.{◌≡◌, ◌≢◌, ℕ, zero, suc, ◌+◌, ◌-◌, ◌*◌, ◌^◌, ◌<◌, ◌≤◌, ◌⊎◌, inl, inr, Bool, true, false, ◌&&◌, nat_lt, List, [], ◌∷◌, ◌++◌, length, map, Option, Some, None, slice_get, refl, ap, sym, ◌∙◌, subst, arith, length-append, append_assoc}
+use Rattle.std.proofs.Common.{◌≡◌, ℕ, zero, suc, ◌+◌, ◌<◌, ◌≤◌, List, [], ◌∷◌, ◌++◌, length, Some, None, slice_get, refl, ap, sym, ◌∙◌, arith, length-append, append_assoc}
 use Rattle.mid_code.specs.declared.reg.Reg.{Reg}
 use Rattle.mid_code.specs.declared.op.MidOp.{MidOp}
 use Rattle.mid_code.specs.declared.op.MidOp.TheVariants.{Const, Copy, Both, Divide, Runtime, Skip, Back, Unless}
 use Rattle.mid_code.specs.declared.op.LinedOp.{LinedOp}
-use Rattle.mid_code.specs.Operations.{MidCode, op_in, line_from, line_in, ops_of, code_of}
+use Rattle.mid_code.specs.Operations.{op_in, line_from, line_in, ops_of}
 use Rattle.rv_isa.specs.declared.inst.Inst.{Inst}
 use Rattle.rv_isa.specs.declared.inst.Inst.TheVariants.{Bne, Ebreak}
 use Rattle.rv_isa.specs.Machine.{Machine}
@@ -12,7 +12,7 @@ use Rattle.rv_select.specs.Places.{Place, fetch_code}
 use Rattle.rv_select.specs.Slots.{place_of, slots_of}
 use Rattle.rv_select.specs.Emission.{op_code}
 use Rattle.rv_select.specs.Standing.{StandsAt}
-use Rattle.rv_select.specs.Layout.{lined, placed, size_of, start_of, body_code, entry_code, after_entry, proc_code, code_from, selected, base_from, base_of}
+use Rattle.rv_select.specs.Layout.{lined, placed, size_of, start_of, body_code, entry_code, after_entry, proc_code, code_from, base_from}
 
 -- Where the code of a program stands.
 

@@ -1,26 +1,21 @@
-use Rattle.std.proofs.Common.{◌≡◌, ◌≢◌, ℕ, zero, suc, ◌+◌, ◌-◌, ◌*◌, ◌/◌, ◌%◌, ◌^◌, ◌<◌, ◌≤◌, ◌⊎◌, inl, inr, Bool, true, false, ◌&&◌, nat_lt, List, [], ◌∷◌, ◌++◌, length, map, Option, Some, None, slice_get, refl, ap, sym, ◌∙◌, subst, arith, length-append, append_assoc, append-nil, get_or}
-use Rattle.std.proofs.lemmas.Bool.{ltb-true, ltb-false, lt-ltb, le-ltb}
-use Rattle.thread_system.specs.Effect.{Silent}
-use Rattle.thread_system.specs.Simulation.{Quiets}
+use Rattle.std.proofs.Common.{◌≡◌, ℕ, zero, suc, ◌+◌, ◌-◌, ◌*◌, ◌%◌, ◌^◌, ◌<◌, ◌≤◌, inr, Bool, true, false, ◌&&◌, nat_lt, List, [], ◌∷◌, ◌++◌, length, Some, refl, ap, sym, ◌∙◌, subst, arith, length-append, append_assoc, append-nil}
+use Rattle.std.proofs.lemmas.Bool.{ltb-true, ltb-false}
 use Rattle.mid_code.specs.declared.reg.Reg.{Reg}
 use Rattle.mid_code.specs.declared.op.MidOp.{MidOp}
 use Rattle.mid_code.specs.declared.op.MidOp.TheVariants.{Const, Copy, Both, Divide, Runtime, Skip, Back, Unless}
 use Rattle.mid_code.specs.declared.op.LinedOp.{LinedOp}
-use Rattle.mid_code.specs.Operations.{MidCode, op_in, line_from, line_in, ops_of, code_of}
-use Rattle.mid_code.specs.Flow.{Among, reads_of, writes_of, target_of, nexts_of, Live, reads_now, reads_later, IsLawful, AreLawful}
+use Rattle.mid_code.specs.Operations.{MidCode, op_in, line_in, ops_of, code_of}
+use Rattle.mid_code.specs.Flow.{target_of, Live, reads_now, reads_later, IsLawful, AreLawful}
 use Rattle.mid_code.specs.Step.{first_state}
-use Rattle.rv_isa.specs.declared.inst.Inst.{Inst}
-use Rattle.rv_isa.specs.declared.inst.Inst.TheVariants.{Lui, Add}
 use Rattle.rv_isa.specs.Words.{signed_upper}
-use Rattle.rv_isa.specs.Machine.{Cpu, Machine, moves_on, act, machine_step}
-use Rattle.rv_select.specs.declared.lined.LinedInst.{LinedInst}
-use Rattle.rv_select.specs.Places.{Place, frame_of}
+use Rattle.rv_isa.specs.Machine.{Cpu, Machine, moves_on}
+use Rattle.rv_select.specs.Places.{Place}
 use Rattle.rv_select.specs.Slots.{place_of, slots_of, FitFrame}
 use Rattle.rv_select.specs.Emission.{op_code}
 use Rattle.rv_select.specs.Standing.{StandsAt}
-use Rattle.rv_select.specs.Relation.{Target, IsNear, Flows, Selected, Core, CarriesOut}
-use Rattle.rv_select.specs.Layout.{placed, lined, size_of, start_of, body_code, entry_code, after_entry, proc_code, code_from, selected, base_from, base_of, target_of_program, is_near, op_reaches, reaches, FitsProc, FitFrom, Fits}
-use Rattle.rv_select.proofs.Straight.{Straight, halts, onward, Goes, straight_goes}
+use Rattle.rv_select.specs.Relation.{Target, IsNear, Flows, Selected, CarriesOut}
+use Rattle.rv_select.specs.Layout.{placed, start_of, entry_code, after_entry, proc_code, code_from, selected, base_from, base_of, target_of_program, is_near, op_reaches, reaches, FitFrom, Fits}
+use Rattle.rv_select.proofs.Straight.{Straight, halts, onward, straight_goes}
 use Rattle.rv_select.proofs.Positions.{size_is, start_next, start_rising, start_within, placed_length, Has, stands_middle, stands_op, stands_end, body_of, Found, proc_found}
 use Rattle.rv_select.proofs.Numbering.{has_slot, live_has_slot, places_apart, is_place}
 
@@ -182,18 +177,21 @@ first_by h ops procs c has end none at stack =
     let c1 : Cpu = moves_on c 7 (signed_upper (2 ^ 20 - 2048)) in
     let c2 : Cpu = moves_on c1 2 (c1.regs 2 + c1.regs 7) in
     let run : Straight h (entry_code 0) c c2 = onward _ _ c c1 c2 refl refl (onward _ _ c1 c2 c2 refl refl (halts c2)) in
-    let goes = straight_goes h (line_in ops 0) 0 (entry_code 0) c c2 (at ∙ omega arith) (entry_stands h ops procs has) run in
-    (c2, goes.by, record {
-      at = goes.to ∙ ap (λ n. 4 * n) (begins ops);
-      there = omega arith;
-      frame = entry_is (c.regs 2) h.low stack end;
-      vals = λ r live. absurd (none r live);
-      small = λ r. omega arith;
-      few = omega arith;
-      args = λ i lt. absurd (omega arith);
-      callers = tt;
-      roomy = omega arith;
-    }) where
+    let goes = straight_goes h (line_in ops 0) 0 (entry_code 0) c c2 (at ∙ omega arith) (entry_stands h ops procs has) run in (
+      c2,
+      goes.by,
+      record {
+        at = goes.to ∙ ap (λ n. 4 * n) (begins ops);
+        there = omega arith;
+        frame = entry_is (c.regs 2) h.low stack end;
+        vals = λ r live. absurd (none r live);
+        small = λ r. omega arith;
+        few = omega arith;
+        args = λ i lt. absurd (omega arith);
+        callers = tt;
+        roomy = omega arith;
+      },
+    ) where
       begins : (ops : List LinedOp) → 0 + length (entry_code 0) ≡ start_of (place_of (slots_of ops)) (after_entry 0 0) ops 0
       begins [] = refl
       begins (o ∷ ops) = refl

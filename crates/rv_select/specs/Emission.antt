@@ -11,7 +11,7 @@ use Rattle.mid_code.specs.declared.op.Division.TheVariants.{DivS, RemS}
 use Rattle.mid_code.specs.declared.op.MidOp.{MidOp}
 use Rattle.mid_code.specs.declared.op.MidOp.TheVariants.{Const, Copy, Both, Divide, Runtime, Skip, Back, Unless}
 use Rattle.rv_isa.specs.declared.inst.Inst.{Inst}
-use Rattle.rv_isa.specs.declared.inst.Inst.TheVariants.{Lui, Jal, Bne, Addi, Slli, Sltiu, Add, Sub, Slt, Sltu, Mul, Div, Rem, Ecall, Ebreak}
+use Rattle.rv_isa.specs.declared.inst.Inst.TheVariants.{Lui, Jal, Bne, Addi, Slli, Sltiu, Add, Sub, Slt, Sltu, Mul, Div, Rem, Ecall}
 use Rattle.rv_select.specs.Places.{Place, fetch_code, keep_code}
 
 -- A number into a register, eleven bits at a time: so many pieces at the most behind the first.

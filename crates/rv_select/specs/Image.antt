@@ -1,5 +1,5 @@
 -- The image of a program's code.
-use Rattle.std.specs.Prelude.{ℕ, zero, suc, ◌==◌, if◌then◌else◌, List, [], ◌∷◌, map, max}
+use Rattle.std.specs.Prelude.{ℕ, suc, ◌==◌, if◌then◌else◌, List, [], ◌∷◌, map, max}
 use Rattle.fb_base.specs.declared.shape.Shape.{Shape}
 use Rattle.fb_base.specs.declared.shape.LineAt.{LineAt}
 use Rattle.fb_image.specs.declared.image.ImageParts.{ImageParts}

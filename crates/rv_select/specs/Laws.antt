@@ -1,5 +1,5 @@
 -- What is promised of selected code.
-use Rattle.std.specs.Prelude.{◌≡◌, ℕ, ◌^◌, ◌<◌, ◌≤◌, List, length}
+use Rattle.std.specs.Prelude.{ℕ, ◌^◌, ◌<◌, ◌≤◌, List, length}
 use Rattle.std.specs.List.{AllByRecursion}
 use Rattle.thread_system.specs.Memory.{Memory}
 use Rattle.thread_system.specs.Segment.{End, Segment}
@@ -35,9 +35,9 @@ machine_for procs thread = machine_of (parts_of procs) (stack_of thread)
 abbrev pub Carries : List (List LinedOp) → ℕ → MidState → Cpu → Type 0
 Carries procs thread s c = CarriesOut (machine_for procs thread) (code_of procs) (target_of_program procs) (Live (code_of procs)) s c
 
--- The parts keep the rules of images.
+-- The parts of a program that has a main module keep the rules of images.
 abbrev pub ImageRules : Type 0
-ImageRules = (procs : List (List LinedOp)) → IsProgram procs → Fits procs → KeepsRules (parts_of procs)
+ImageRules = (procs : List (List LinedOp)) → 1 ≤ length procs → Fits procs → KeepsRules (parts_of procs)
 
 -- The main thread of the image begins as the program's.
 abbrev pub FirstStates : Type 0

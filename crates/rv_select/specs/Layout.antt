@@ -1,5 +1,5 @@
 -- The code of a whole program, one procedure behind the other.
-use Rattle.std.specs.Prelude.{◌≡◌, ℕ, zero, suc, ◌+◌, ◌-◌, ◌^◌, ◌<◌, ◌≤◌, Bool, true, ◌&&◌, nat_lt, nat_le, List, [], ◌∷◌, ◌++◌, length, map}
+use Rattle.std.specs.Prelude.{◌≡◌, ℕ, zero, suc, ◌+◌, ◌-◌, ◌^◌, ◌<◌, Bool, true, ◌&&◌, nat_lt, List, [], ◌∷◌, ◌++◌, length, map}
 use Rattle.mid_code.specs.declared.reg.Reg.{Reg}
 use Rattle.mid_code.specs.declared.op.MidOp.{MidOp}
 use Rattle.mid_code.specs.declared.op.MidOp.TheVariants.{Skip, Back, Unless}
@@ -42,9 +42,15 @@ body_code place start i line (o ∷ ops) = placed o.line (op_code place start i 
 
 -- A procedure's entry takes a frame. The main module's takes two, so that an activation that it calls is the second
 -- of a thousand.
+abbrev pub main_entry : List Inst
+main_entry = Lui 7 (2 ^ 20 - 2048) ∷ (Add 2 2 7 ∷ [])
+
+abbrev pub called_entry : List Inst
+called_entry = Lui 7 (2 ^ 20 - 1024) ∷ (Add 2 2 7 ∷ (Sd 2 1 0 ∷ []))
+
 abbrev pub entry_code : ℕ → List Inst
-entry_code zero = Lui 7 (2 ^ 20 - 2048) ∷ (Add 2 2 7 ∷ [])
-entry_code (suc p) = Lui 7 (2 ^ 20 - 1024) ∷ (Add 2 2 7 ∷ (Sd 2 1 0 ∷ []))
+entry_code zero = main_entry
+entry_code (suc p) = called_entry
 
 -- where the operations of procedure p begin, if its entry begins at k
 abbrev pub after_entry : ℕ → ℕ → ℕ

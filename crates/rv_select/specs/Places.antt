@@ -1,5 +1,5 @@
 -- Where the values of middle code's registers stand while a procedure runs.
-use Rattle.std.specs.Prelude.{◌≡◌, ◌≢◌, ℕ, ◌+◌, ◌*◌, ◌/◌, ◌%◌, ◌^◌, ◌<◌, ◌≤◌, ◌⊎◌, nat_lt, if◌then◌else◌, List, [], ◌∷◌}
+use Rattle.std.specs.Prelude.{◌≢◌, ℕ, ◌+◌, ◌*◌, ◌/◌, ◌%◌, ◌^◌, ◌<◌, ◌≤◌, ◌⊎◌, nat_lt, if◌then◌else◌, List, [], ◌∷◌}
 use Rattle.rv_isa.specs.Words.{loaded}
 use Rattle.rv_isa.specs.Machine.{Cpu, Machine}
 use Rattle.rv_isa.specs.declared.inst.Inst.{Inst}

@@ -1,16 +1,15 @@
 -- When a thread of the machine carries out one of middle code.
-use Rattle.std.specs.Prelude.{◌≡◌, ◌≢◌, ℕ, zero, suc, ◌+◌, ◌*◌, ◌^◌, ◌<◌, ◌≤◌, ◌⊎◌, List, [], ◌∷◌, length, get_or, Option, Some, None, option_and_then}
+use Rattle.std.specs.Prelude.{◌≡◌, ◌≢◌, ℕ, suc, ◌+◌, ◌*◌, ◌^◌, ◌<◌, ◌≤◌, List, [], ◌∷◌, length, get_or, Option, Some, None, option_and_then}
 use Rattle.thread_system.specs.Simulation.{Quiets}
 use Rattle.mid_code.specs.declared.reg.Reg.{Reg}
 use Rattle.mid_code.specs.declared.op.MidOp.{MidOp}
 use Rattle.mid_code.specs.Operations.{MidCode}
 use Rattle.mid_code.specs.Flow.{Among, reads_of, writes_of, target_of, nexts_of, IsLawful}
 use Rattle.mid_code.specs.Step.{Activation, MidState}
-use Rattle.rv_isa.specs.declared.inst.Inst.{Inst}
 use Rattle.rv_isa.specs.declared.inst.Inst.TheVariants.{Ebreak}
 use Rattle.rv_isa.specs.Words.{loaded}
 use Rattle.rv_isa.specs.Machine.{Cpu, Machine, machine_step}
-use Rattle.rv_select.specs.Places.{Place, Slot, Real, IsPlace, Apart, holds, slot_off, frame_of, keep_code}
+use Rattle.rv_select.specs.Places.{Place, Slot, Real, IsPlace, Apart, holds, slot_off, frame_of}
 use Rattle.rv_select.specs.Emission.{op_code, answer_code}
 use Rattle.rv_select.specs.Standing.{StandsAt}
 

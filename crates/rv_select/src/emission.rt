@@ -1,7 +1,7 @@
 //! The instructions of each operation. A register of the machine is given by its number.
 
 ghost use Rattle.std.specs.Prelude.{◌≡◌, ◌≤◌, ◌<◌, ◌^◌, ◌+◌, ◌++◌, ◌∷◌, [], length, OnOk};
-ghost use Rattle.rv_isa.specs.declared.inst.Inst.TheVariants.{Addi};
+ghost use Rattle.rv_isa.specs.declared.inst.Inst.TheVariants.{Addi, Bne};
 ghost use Rattle.rv_select.specs.Places.{slot_off, load_code, store_code, fetch_code, keep_code};
 ghost use Rattle.rv_select.specs.Slots.{place_of, last_slot};
 ghost use Rattle.rv_select.specs.Emission as emission;
@@ -177,21 +177,41 @@ fn put_word_op(code: &mut Vec<Inst>, op: WordOp) -> Result<(), NoMemory>
         WordOp::Times => code.push(Inst::Mul { rd, rs1, rs2 })?,
         WordOp::LessS => {
             code.push(Inst::Slt { rd, rs1, rs2 })?;
-            code.push(Inst::Sub { rd, rs1: zero, rs2: rd })?;
+            code.push(Inst::Sub {
+                rd,
+                rs1: zero,
+                rs2: rd,
+            })?;
         }
         WordOp::AtMostS => {
-            code.push(Inst::Slt { rd, rs1: rs2, rs2: rs1 })?;
+            code.push(Inst::Slt {
+                rd,
+                rs1: rs2,
+                rs2: rs1,
+            })?;
             code.push(add_immediate(5, 5, 4095))?;
         }
         WordOp::Same => {
             code.push(Inst::Sub { rd, rs1, rs2 })?;
             code.push(Inst::Sltiu { rd, rs1, imm: one })?;
-            code.push(Inst::Sub { rd, rs1: zero, rs2: rd })?;
+            code.push(Inst::Sub {
+                rd,
+                rs1: zero,
+                rs2: rd,
+            })?;
         }
         WordOp::Other => {
             code.push(Inst::Sub { rd, rs1, rs2 })?;
-            code.push(Inst::Sltu { rd, rs1: zero, rs2: rd })?;
-            code.push(Inst::Sub { rd, rs1: zero, rs2: rd })?;
+            code.push(Inst::Sltu {
+                rd,
+                rs1: zero,
+                rs2: rd,
+            })?;
+            code.push(Inst::Sub {
+                rd,
+                rs1: zero,
+                rs2: rd,
+            })?;
         }
     }
     Ok(())
@@ -210,15 +230,24 @@ fn division(op: Division) -> Inst
     }
 }
 
+/// A branch ahead where a register isn't 0, over so many units of two bytes.
+fn branch_around(r: u8, offset: u16) -> Inst
+    requires r { r < 32 }
+    requires offset { offset < 2 ^ 12 }
+    ensures { result ≡ Bne r 0 offset }
+{
+    Inst::Bne {
+        rs1: rv_isa::Reg::new(r),
+        rs2: rv_isa::Reg::new(0),
+        offset: Branch::new(offset),
+    }
+}
+
 /// A test for a zero divisor in register 6: it leads around the trap DivZero where it isn't 0.
 fn put_zero_test(code: &mut Vec<Inst>) -> Result<(), NoMemory>
     ensures { OnOk result (code.new.items ≡ code.old.items ++ emission.zero_test) }
 {
-    code.push(Inst::Bne {
-        rs1: rv_isa::Reg::new(6),
-        rs2: rv_isa::Reg::new(0),
-        offset: Branch::new(8),
-    })?;
+    code.push(branch_around(6, 8))?;
     code.push(add_immediate(10, 0, 3))?;
     code.push(add_immediate(17, 0, 70))?;
     code.push(Inst::Ecall)?;
@@ -226,7 +255,12 @@ fn put_zero_test(code: &mut Vec<Inst>) -> Result<(), NoMemory>
 }
 
 /// An argument of a runtime call into its register; one that is missing is 0.
-fn put_argument(code: &mut Vec<Inst>, slots: Slots, r: u8, argument: Option<Reg>) -> Result<(), NoMemory>
+fn put_argument(
+    code: &mut Vec<Inst>,
+    slots: Slots,
+    r: u8,
+    argument: Option<Reg>,
+) -> Result<(), NoMemory>
     requires { r < 32 }
     ensures { OnOk result (code.new.items ≡ code.old.items ++ emission.argument_code (place_of slots) r argument) }
 {
@@ -281,17 +315,19 @@ fn put_jump(code: &mut Vec<Inst>, from: u64, to: u64) -> Result<(), NoMemory>
 }
 
 /// A jump where a value is 0.
-fn put_unless(code: &mut Vec<Inst>, slots: Slots, test: Reg, from: u64, to: u64) -> Result<(), NoMemory>
+fn put_unless(
+    code: &mut Vec<Inst>,
+    slots: Slots,
+    test: Reg,
+    from: u64,
+    to: u64,
+) -> Result<(), NoMemory>
     requires from { from < 2 ^ 39 }
     requires to { to < 2 ^ 40 }
     ensures { OnOk result (code.new.items ≡ code.old.items ++ emission.unless_code (place_of slots test) from to) }
 {
     put_fetch(code, slots, 5, test)?;
-    code.push(Inst::Bne {
-        rs1: rv_isa::Reg::new(5),
-        rs2: rv_isa::Reg::new(0),
-        offset: Branch::new(4),
-    })?;
+    code.push(branch_around(5, 4))?;
     put_jump(code, from + fetch_size(slots, test) + 1, to)
 }
 
@@ -300,11 +336,21 @@ fn fetch_size(slots: Slots, from: Reg) -> u64
     ensures value { result ≡ length (fetch_code 5 (place_of slots from)) }
     ensures small { result ≤ 3 }
 {
-    if 8 * (slot(slots, from) + 32) < 2048 { 1 } else { 3 }
+    if 8 * (slot(slots, from) + 32) < 2048 {
+        1
+    } else {
+        3
+    }
 }
 
 /// The instructions of the operation at position `at`.
-pub fn put_op(code: &mut Vec<Inst>, slots: Slots, starts: &Starts, at: u32, op: MidOp) -> Result<(), NoMemory>
+pub fn put_op(
+    code: &mut Vec<Inst>,
+    slots: Slots,
+    starts: &Starts,
+    at: u32,
+    op: MidOp,
+) -> Result<(), NoMemory>
     ensures { OnOk result (code.new.items ≡ code.old.items ++ emission.op_code (place_of slots) (start_at starts.now) at op) }
 {
     match op {
@@ -316,12 +362,22 @@ pub fn put_op(code: &mut Vec<Inst>, slots: Slots, starts: &Starts, at: u32, op: 
             put_fetch(code, slots, 5, from)?;
             put_keep(code, slots, to, 5)
         }
-        MidOp::Both { op, to, left, right } => {
+        MidOp::Both {
+            op,
+            to,
+            left,
+            right,
+        } => {
             put_two(code, slots, left, right)?;
             put_word_op(code, op)?;
             put_keep(code, slots, to, 5)
         }
-        MidOp::Divide { op, to, left, right } => {
+        MidOp::Divide {
+            op,
+            to,
+            left,
+            right,
+        } => {
             put_two(code, slots, left, right)?;
             put_zero_test(code)?;
             code.push(division(op))?;
@@ -342,8 +398,15 @@ pub fn put_op(code: &mut Vec<Inst>, slots: Slots, starts: &Starts, at: u32, op: 
             put_ask(code, number)?;
             put_answer(code, slots, to)
         }
-        MidOp::Skip { target } => put_jump(code, start(starts, at) as u64, start(starts, target) as u64),
-        MidOp::Back { target } => put_jump(code, start(starts, at) as u64, start(starts, target) as u64),
+        MidOp::Skip { target } => put_jump(
+            code,
+            start(starts, at) as u64,
+            start(starts, target) as u64,
+        ),
+        MidOp::Back { target } => {
+            let back = start(starts, target) as u64;
+            put_jump(code, start(starts, at) as u64, back)
+        }
         MidOp::Unless { test, target } => put_unless(
             code,
             slots,

@@ -5,7 +5,11 @@ mod emission;
 mod laws;
 mod layout;
 mod lined;
+mod program;
 mod slots;
 mod starts;
+#[cfg(test)]
+mod tests;
 
 pub use laws::selection;
+pub use program::select;

@@ -54,10 +54,16 @@ fn with_operation(slots: Slots, op: MidOp) -> Slots
         MidOp::Const { to, .. } => with_register(slots, to),
         MidOp::Copy { to, from } => with_register(with_register(slots, from), to),
         MidOp::Both {
-            to, left, right, ..
+            to,
+            left,
+            right,
+            ..
         } => with_register(with_register(with_register(slots, left), right), to),
         MidOp::Divide {
-            to, left, right, ..
+            to,
+            left,
+            right,
+            ..
         } => with_register(with_register(with_register(slots, left), right), to),
         MidOp::Runtime {
             first,

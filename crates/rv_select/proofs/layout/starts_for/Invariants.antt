@@ -1,4 +1,4 @@
-use Rattle.std.proofs.Common.{◌≡◌, ◌≤◌, ◌^◌, ◌++◌, drop}
+use Rattle.std.proofs.Common.{◌≡◌, ◌++◌, drop}
 use Rattle.rv_select.specs.Slots.{place_of}
 use Rattle.rv_select.specs.Starts.{starts_from, end_from}
 use Rattle.rv_select.proofs.layout.starts_for.Given as goal
