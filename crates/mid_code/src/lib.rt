@@ -4,6 +4,7 @@
 mod op;
 mod program;
 mod reg;
+mod search;
 
 pub use op::{Division, LinedOp, MidOp, WordOp};
 pub use program::{MidProc, MidProgram};
