@@ -63,7 +63,7 @@ grows_one ops r marks j path true is =
       first = λ h. mark_kept marks j 0 h;
       most = omega (arith, count_new marks j is);
       fewer = λ e. omega (arith, count_new marks j is);
-      same = λ e. absurd (not_false e)
+      same = λ e. absurd (not_false e);
     }
   where
     by_mark : AreReached ops r marks → (i : ℕ) → (i ≡ j) ⊎ (marked marks i ≡ true) → Unwritten ops r i
@@ -82,7 +82,7 @@ grows_list ops r [] marks path = grows_none ops r marks
 grows_list ops r (j ∷ js) marks path =
     let one = grows_one ops r marks j (λ h. path h j (inl refl)) (is_new marks j) refl in
     grows_both ops r marks (set marks j true) (with_marks js (set marks j true)) (is_new marks j) (any_new js (set marks j true)) one
-      (grows_list ops r js (set marks j true) (λ h i among. path_on i among h))
+    (grows_list ops r js (set marks j true) (λ h i among. path_on i among h))
   where
     path_on : (i : ℕ) → Among i js → AreReached ops r (set marks j true) → Unwritten ops r i
     path_on i among h = path (λ k on. h k (mark_kept marks j k on)) i (inr among)
@@ -97,7 +97,7 @@ list_all (i ∷ js) marks j (inl e) less = rw e (list_kept js (set marks i true)
 list_all (i ∷ js) marks j (inr among) less = list_all js (set marks i true) j among (omega (arith, length-set marks i true))
 
 -- one position's nexts
-some_same : (a b : MidOp) → Some a ≡ Some b → a ≡ b
+pub some_same : (a b : MidOp) → Some a ≡ Some b → a ≡ b
 some_same a b e = ap (λ o. unwrap_or o a) e
 
 pub grows_nexts : (ops : List LinedOp) (r : Reg) (i : ℕ) (op : MidOp) (marks : List Bool) → op_in ops i ≡ Some op → marked marks i ≡ true → (writes_of op ≡ Some r → ⊥) → Grows ops r marks (with_marks (nexts_of i op) marks) (any_new (nexts_of i op) marks)
@@ -155,6 +155,7 @@ first_mark ops r marks new blank is = rw is (length-set marks 0 true ∙ blank.l
     by_mark : (i : ℕ) → (i ≡ 0) ⊎ (marked marks i ≡ true) → Unwritten ops r i
     by_mark i (inl e) = subst (λ n. Unwritten ops r n) (sym e) begins
     by_mark i (inr on) = absurd (not_false (sym on ∙ blank.none i))
+
     reached : AreReached ops r (set marks 0 true)
     reached i on = by_mark i (mark_only marks 0 i on)
 
@@ -237,7 +238,7 @@ sound_same : (m n : MidCode) (p q : ℕ) → ((i : ℕ) → m.op_at p i ≡ n.op
 sound_same m n p q same sound =
     record {
       written = λ r live. sound.written r (live_same n m q p (λ i. sym (same i)) 0 r live);
-      targets = λ i t op is target. let f = sound.targets i t op (same i ∙ is) target in (f.0, sym (same t) ∙ f.1)
+      targets = λ i t op is target. let f = sound.targets i t op (same i ∙ is) target in (f.0, sym (same t) ∙ f.1);
     }
 
 ops_found : (procs : List (List LinedOp)) (p : ℕ) (ops : List LinedOp) → slice_get procs p ≡ Some ops → ops_of procs p ≡ ops

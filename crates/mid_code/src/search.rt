@@ -158,7 +158,11 @@ fn is_read_at(ops: &[LinedOp], r: Reg, marks: &Vec<bool>, i: usize) -> bool
     requires long { length marks.now.items ≡ length ops.now }
     ensures { IsTrue result ↔ IsReadAt ops.now r marks.now.items i }
 {
-    if !marks[i] { false } else { reads(ops[i].op, r) }
+    if !marks[i] {
+        false
+    } else {
+        reads(ops[i].op, r)
+    }
 }
 
 /// Whether a register is written before it is read on every path.
@@ -190,7 +194,9 @@ fn reads_below(op: MidOp) -> u64
             third,
             fourth,
             ..
-        } => above_this(first).max(above_this(second)).max(above_this(third).max(above_this(fourth))),
+        } => above_this(first)
+            .max(above_this(second))
+            .max(above_this(third).max(above_this(fourth))),
         MidOp::Unless { test, .. } => above(test),
         MidOp::Const { .. } | MidOp::Skip { .. } | MidOp::Back { .. } => 0,
     }

@@ -13,5 +13,5 @@ returns c =
     record {
       long = long;
       sound = grows.reached begun.1;
-      all = all_found c.args.ops.now c.args.r _ long (λ less. grows.first (begun.2 less)) (c.spread.ensures.closed c.loop-r-test.false)
+      all = all_found c.args.ops.now c.args.r _ long (λ less. grows.first (begun.2 less)) (c.spread.ensures.closed c.loop-r-test.false);
     }
