@@ -1,2 +1,11 @@
+pub mod EachProgram
+pub mod EachRow
+pub mod Lines
+pub mod LinesAreOne
 pub mod Parts
+pub mod ProgramIsOne
+pub mod RowIsOne
+pub mod Sound
+pub mod Stacks
+pub mod Texts
 pub mod Trees

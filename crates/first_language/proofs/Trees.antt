@@ -1,13 +1,13 @@
 -- What the code keeps of a larger tree is made of what it keeps of its parts.
 use mathlib.Core.Former.{this, list_count, list_put}
 use mathlib.Core.List.{map as list_map}
-use Rattle.std.proofs.Common.{◌≡◌, ℕ, List, [], ◌∷◌, ◌++◌, refl, sym, ◌∙◌, ap}
+use Rattle.std.proofs.Common.{◌≡◌, ℕ, List, [], ◌∷◌, refl, ap}
 use Rattle.first_language.specs.declared.tree.Operator.{Operator}
 use Rattle.first_language.specs.declared.tree.Expr.{Expr}
 use Rattle.first_language.specs.declared.tree.Expr.TheVariants as e
 use Rattle.first_language.specs.declared.tree.Stmt.{Stmt}
 use Rattle.first_language.specs.declared.tree.Stmt.TheVariants as s
-use Rattle.first_language.specs.Tree.{Tree, Literal, Variable, Parenthesised, Apply, Statement, If, While, Block, End, Then, tree_of, statement_of, row_block, block_of}
+use Rattle.first_language.specs.Tree.{Parenthesised, Apply, If, While, Then, tree_of, statement_of, row_block, block_of}
 
 pub tree_parenthesised : (inside : Expr) → tree_of (e.Parenthesised inside) ≡ Parenthesised (tree_of inside)
 unfolding Rattle.first_language.specs.declared.tree.Expr.TheBlock.hidden-the_row-Expr-0 denote.Hole.Carrier.hidden

@@ -1,9 +1,10 @@
 -- The form of a program's text.
-use Rattle.std.specs.Prelude.{ℕ, suc, ◌+◌, ◌≡◌, ◌≢◌, ◌≤◌, List, [], ◌∷◌, ◌++◌, length, drop, position, Bool, true, false, Option, Some, None}
+use Rattle.std.specs.Prelude.{ℕ, suc, ◌+◌, ◌^◌, ◌≡◌, ◌≢◌, ◌<◌, ◌≤◌, List, [], ◌∷◌, ◌++◌, length, drop, position, Bool, true, false, Option, Some, None}
 use Rattle.std.specs.Str.{bytes_eq}
 use Rattle.fb_lexer.specs.declared.token.TokenKind.{TokenKind}
 use Rattle.fb_lexer.specs.Letters.{is_blank}
-use Rattle.fb_lexer.specs.Grammar.{IsLongest}
+use Rattle.fb_lexer.specs.declared.piece.Piece.TheVariants as pieces
+use Rattle.fb_lexer.specs.Grammar.{IsPiece}
 use Rattle.first_language.specs.declared.tree.Operator.{Operator}
 use Rattle.first_language.specs.declared.tree.Operator.TheVariants.{Times, Quotient, Remainder, Plus, Minus, Same, Other, Less, AtMost, More, AtLeast}
 use Rattle.first_language.specs.declared.token.Token.{Token}
@@ -24,7 +25,7 @@ pub data HasLines : List ℕ → List Tokens → Type 0 where
   newline : (text : List ℕ) (lines : List Tokens) → HasLines text lines → HasLines (10 ∷ text) ([] ∷ lines)
   white : (b : ℕ) (text : List ℕ) (lines : List Tokens) → is_blank b ≡ true → HasLines text lines → HasLines (b ∷ text) lines
   token : (b : ℕ) (text : List ℕ) (n : ℕ) (kind : TokenKind) (one : Token) (line : Tokens) (lines : List Tokens)
-      → b ≢ 38 → IsLongest (b ∷ text) n kind → token_of kind ≡ Some one → HasLines (drop n (b ∷ text)) (line ∷ lines)
+      → b ≢ 38 → IsPiece (b ∷ text) (pieces.Token kind n) → token_of kind ≡ Some one → HasLines (drop n (b ∷ text)) (line ∷ lines)
       → HasLines (b ∷ text) ((one ∷ line) ∷ lines)
 
 -- ---- expressions
@@ -53,7 +54,7 @@ looseness AtLeast = 4
 
 -- Operands with operators between them: all outside parentheses are tighter than a bound. They group from the left.
 pub data IsRow (names : Names) : ℕ → Tokens → Tree → Type 0 where
-  literal : (n : ℕ) → IsRow names 0 (t.Number n ∷ []) (Literal n)
+  literal : (n : ℕ) → n < 2 ^ 63 → IsRow names 0 (t.Number n ∷ []) (Literal n)
   variable : (name : List ℕ) (x : ℕ) → place_of names name ≡ Some x → IsRow names 0 (t.Name name ∷ []) (Variable x)
   parenthesised : (tokens : Tokens) (inside : Tree) → IsRow names 5 tokens inside → IsRow names 0 (t.Open ∷ (tokens ++ t.Close ∷ [])) (Parenthesised inside)
   tighter : (bound : ℕ) (tokens : Tokens) (tree : Tree) → IsRow names bound tokens tree → IsRow names (suc bound) tokens tree

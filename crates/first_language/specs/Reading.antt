@@ -1,7 +1,7 @@
 -- What a program's lines are read as.
-use Rattle.std.specs.Prelude.{ℕ, suc, ◌+◌, ◌==◌, max, nat_le, nat_lt, if◌then◌else◌, Bool, true, false, List, [], ◌∷◌, ◌++◌, length, Option, Some, None, option_map, option_and_then}
+use Rattle.std.specs.Prelude.{ℕ, suc, ◌+◌, ◌^◌, max, nat_le, nat_lt, if◌then◌else◌, Bool, true, false, List, [], ◌∷◌, ◌++◌, length, Option, Some, None, option_map, option_and_then}
 use Rattle.first_language.specs.declared.tree.Operator.{Operator}
-use Rattle.first_language.specs.declared.tree.Operator.TheVariants.{Times, Quotient, Remainder, Plus, Minus, Same, Other, Less, AtMost, More, AtLeast}
+use Rattle.first_language.specs.declared.tree.Operator.TheVariants.{Same}
 use Rattle.first_language.specs.declared.token.Token.{Token}
 use Rattle.first_language.specs.declared.token.Token.TheVariants as t
 use Rattle.first_language.specs.Grammar.{Tokens, Names, place_of, looseness, Line, Nothing, Declares, DeclaresWith, Does, OpensIf, ClosesIf, OpensWhile, ClosesWhile}
@@ -60,7 +60,7 @@ closed part (Waits left op ∷ waiting) = None
 
 -- a token further, where an operand has to come
 abbrev pub wanting : Names → List Waiting → Token → Option Standing
-wanting names waiting (t.Number n) = Some (Has (leaf (Literal n)) waiting)
+wanting names waiting (t.Number n) = if nat_lt n (2 ^ 63) then Some (Has (leaf (Literal n)) waiting) else None
 wanting names waiting (t.Name name) = option_map (λ x. Has (leaf (Variable x)) waiting) (place_of names name)
 wanting names waiting t.Open = Some (Wants (Opened ∷ waiting))
 wanting names waiting other = None
@@ -106,11 +106,15 @@ assignment names number name (t.Sign Same ∷ tokens) =
     option_and_then (λ x. option_map (λ value. Does (Assign x value number)) (expression_of names tokens)) (place_of names name)
 assignment names number name other = None
 
+abbrev pub is_then : Token → Bool
+is_then t.Then = true
+is_then other = false
+
 -- the tokens before a Then at their end
 abbrev pub before_then : Tokens → Option Tokens
 before_then [] = None
-before_then (t.Then ∷ []) = Some []
-before_then (token ∷ tokens) = option_map (λ front. token ∷ front) (before_then tokens)
+before_then (token ∷ []) = if is_then token then Some [] else None
+before_then (token ∷ next ∷ tokens) = option_map (λ front. token ∷ front) (before_then (next ∷ tokens))
 
 -- behind If
 abbrev pub condition : Names → Tokens → Option Line

@@ -1,5 +1,5 @@
 -- What the tokens of FreeBASIC text are in the small language.
-use Rattle.std.specs.Prelude.{ℕ, ◌^◌, nat_lt, if◌then◌else◌, Option, Some, None}
+use Rattle.std.specs.Prelude.{Option, Some, None}
 use Rattle.fb_lexer.specs.declared.token.Mark.{Mark}
 use Rattle.fb_lexer.specs.declared.token.Mark.TheVariants as marks
 use Rattle.fb_lexer.specs.declared.token.TokenKind.{TokenKind}
@@ -40,10 +40,10 @@ word_token KwWhile = Some t.While
 word_token KwWend = Some t.Wend
 word_token other = None
 
--- The tokens of the language; a number is below 2^63.
+-- The tokens of the language.
 abbrev pub token_of : TokenKind → Option Token
 token_of (kinds.Name name) = Some (t.Name name)
 token_of (kinds.Word word) = word_token word
-token_of (kinds.Number value) = if nat_lt value (2 ^ 63) then Some (t.Number value) else None
+token_of (kinds.Number value) = Some (t.Number value)
 token_of (kinds.Mark mark) = sign_of mark
 token_of other = None

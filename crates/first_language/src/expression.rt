@@ -161,12 +161,15 @@ fn wanting(
     ensures { IfOk result (λ next. option_map standing_of next ≡ wanting names.now (pile_of waiting.items) token.now) }
 {
     match token {
-        Token::Number(value) => Ok(Some(Standing::Has(leaf(Expr::Literal(*value)), waiting))),
+        Token::Number(value) => {
+            if *value < 1 << 63 {
+                Ok(Some(Standing::Has(leaf(Expr::Literal(*value)), waiting)))
+            } else {
+                Ok(None)
+            }
+        }
         Token::Name(name) => match place_of(names, name.bytes()) {
-            Some(place) => Ok(Some(Standing::Has(
-                leaf(Expr::Variable(place as u64)),
-                waiting,
-            ))),
+            Some(place) => Ok(Some(Standing::Has(leaf(Expr::Variable(place as u64)), waiting))),
             None => Ok(None),
         },
         Token::Open => {

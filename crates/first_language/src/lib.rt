@@ -3,7 +3,13 @@
 
 mod expression;
 mod front;
+mod line;
+mod reader;
+mod statements;
+#[cfg(test)]
+mod tests;
 mod token;
 mod tree;
 
+pub use reader::{programs_are_sound, read_program};
 pub use tree::{Expr, Operator, Program, Stmt};

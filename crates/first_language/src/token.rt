@@ -9,7 +9,7 @@ use fb_lexer::{Mark, TokenKind, Word};
 /// A token of the small language.
 #[derive(Debug, Drop)]
 pub enum Token {
-    /// A decimal number below 2^63.
+    /// A decimal number.
     Number(u64),
     /// A name that is no reserved word, in lower case.
     Name(Text),
@@ -75,7 +75,7 @@ pub fn token_of(kind: TokenKind) -> Option<Token>
     match kind {
         TokenKind::Name(name) => Some(Token::Name(name)),
         TokenKind::Word(word) => word_token(word),
-        TokenKind::Number(value) if value < 1 << 63 => Some(Token::Number(value)),
+        TokenKind::Number(value) => Some(Token::Number(value)),
         TokenKind::Mark(mark) => mark_token(mark),
         _ => None,
     }
