@@ -1,12 +1,11 @@
 -- Each program that a text has is sound.
-use Rattle.std.proofs.Common.{◌≡◌, ℕ, suc, ◌+◌, ◌<◌, ◌≤◌, Bool, true, false, if◌then◌else◌, cond, List, [], ◌∷◌, ◌++◌, length, Option, Some, None, option_map, refl, ap, sym, ◌∙◌, subst, length-append, arith}
+use Rattle.std.proofs.Common.{◌≡◌, ℕ, suc, ◌+◌, ◌<◌, ◌≤◌, Bool, true, false, List, [], ◌∷◌, ◌++◌, length, Some, length-append, arith}
 use Rattle.std.specs.Prelude.{⊤}
 use Rattle.std.specs.Str.{bytes_eq}
 use Rattle.std.proofs.lemmas.List.Quantifiers.{position-Some}
-use Rattle.first_language.specs.Tree.{Tree, Statement, Block, Program}
-use Rattle.first_language.specs.Grammar.{Tokens, Names, place_of, IsRow, literal, variable, parenthesised, tighter, apply, IsExpression, Line, Nothing, Declares, DeclaresWith, Does, OpensIf, ClosesIf, OpensWhile, ClosesWhile, IsLine, nothing, declares, declares_with, assigns, prints, opens_if, closes_if, opens_while, closes_while, AreStatements, none, nothing as no_statement, declares as declared, declares_with as declared_with, does, if_block, while_block, IsProgram}
+use Rattle.first_language.specs.Tree.{Tree, Block, Program}
+use Rattle.first_language.specs.Grammar.{Tokens, Names, place_of, IsRow, literal, variable, parenthesised, tighter, apply, IsExpression, Line, DeclaresWith, Does, OpensIf, OpensWhile, IsLine, nothing, declares, declares_with, assigns, prints, opens_if, closes_if, opens_while, closes_while, AreStatements, none, nothing as no_statement, declares as declared, declares_with as declared_with, does, if_block, while_block, IsProgram}
 use Rattle.first_language.specs.Sound.{HasParts, IsSoundTree, IsSoundStatement, IsSoundBlock, IsSound}
-use Rattle.first_language.proofs.RowIsOne.{map_parts, some_is}
 
 -- a variable's number is below that of the names
 place_below : (names : Names) (name : List ℕ) (x : ℕ) → place_of names name ≡ Some x → x < length names

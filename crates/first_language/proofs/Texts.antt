@@ -1,11 +1,8 @@
 -- From one place of a text to the next.
-use Rattle.std.proofs.Common.{◌≡◌, ◌≢◌, ℕ, ◌<◌, ◌≤◌, ◌^◌, ◌==◌, nat_lt, Bool, true, false, if◌then◌else◌, inl, inr, List, [], ◌∷◌, ◌++◌, length, drop, Option, Some, None, option_map, IfSome, refl, ap, sym, ◌∙◌, subst, append_assoc, append-nil, arith}
+use Rattle.std.proofs.Common.{◌≡◌, ◌≢◌, ℕ, ◌≤◌, ◌==◌, Bool, true, false, if◌then◌else◌, inl, inr, List, [], ◌∷◌, ◌++◌, length, drop, Option, Some, None, option_map, IfSome, refl, ap, sym, ◌∙◌, subst, append_assoc, append-nil, arith}
 use Rattle.std.specs.Prelude.{⊤}
-use Rattle.std.proofs.lemmas.Bool.{ne_eqb, ltb-true}
+use Rattle.std.proofs.lemmas.Bool.{ne_eqb}
 use Rattle.fb_lexer.specs.declared.token.TokenKind.{TokenKind}
-use Rattle.fb_lexer.specs.declared.token.TokenKind.TheVariants as kinds
-use Rattle.fb_lexer.specs.declared.word.Word.{Word}
-use Rattle.fb_lexer.specs.declared.word.Word.TheVariants.{KwRem}
 use Rattle.fb_lexer.specs.declared.piece.Piece.{Piece}
 use Rattle.fb_lexer.specs.declared.piece.Piece.TheVariants as pieces
 use Rattle.fb_lexer.specs.declared.piece.Before.TheVariants as before
@@ -14,16 +11,14 @@ use Rattle.fb_lexer.specs.Pieces.{piece_of}
 use Rattle.fb_lexer.specs.Grammar.{IsPiece, Begins}
 use Rattle.fb_lexer.proofs.Begun.{begins_read, begins_if_read}
 use Rattle.first_language.specs.declared.token.Token.{Token}
-use Rattle.first_language.specs.declared.token.Token.TheVariants as tokens
 use Rattle.first_language.specs.declared.front.Front.{Front}
 use Rattle.first_language.specs.declared.front.Front.TheVariants.{Refused, White, Newline, Token as Has}
-use Rattle.first_language.specs.Tokens.{word_token, token_of}
+use Rattle.first_language.specs.Tokens.{token_of}
 use Rattle.first_language.specs.Fronts.{with_token, front_with, front_of}
 use Rattle.first_language.specs.Tree.{Program}
 use Rattle.first_language.specs.Grammar.{Tokens, HasLines, ends, newline, white, token}
 use Rattle.first_language.specs.Reading.{Progress, start, with_tokens, finished, read_lines, program_of_lines}
 use Rattle.first_language.specs.Texts.{ComesOf}
-use Rattle.first_language.proofs.RowIsOne.{chosen}
 
 -- ---- what stands at a place
 

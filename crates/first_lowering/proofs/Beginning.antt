@@ -75,7 +75,7 @@ main_stands p =
     record {
       spots = spot end 0 ∷ [];
       lies = lies.0;
-      blocks = after_lies (c.Then (call main_end) p.last_line c.Nothing) [] (spot end 0) [] (then_lies [] (call main_end) p.last_line c.Nothing end end (at end) lies.1.0 (nothing_lies [] (suc end) lies.1.1)) (no_blocks [])
+      blocks = after_lies (c.Then (call main_end) p.last_line c.Nothing) [] (spot end 0) [] (then_lies [] (call main_end) p.last_line c.Nothing end end (at end) lies.1.0 (nothing_lies [] (suc end) lies.1.1)) (no_blocks []);
     }
 
 -- The first states are related.

@@ -16,7 +16,7 @@ pub emits_apply : (op : Operator) (line d : ℕ) (left right : Tree) (a b c e : 
     → Emits (expression line d (Apply op left right)) a e
 emits_apply op line d left right a b c e first second is =
     emits_both (expression line d left) (λ rest. expression line (suc d) right (Then (operation op d) line rest)) a b e first
-      (emits_both (expression line (suc d) right) (Then (operation op d) line) b c e second (rw is (emits_op (operation op d) line c)))
+    (emits_both (expression line (suc d) right) (Then (operation op d) line) b c e second (rw is (emits_op (operation op d) line c)))
 
 pub emits_if : (test : Tree) (body : Block) (line : ℕ) (a b c d : List LinedOp) (held : LinedOp)
     → Emits (expression line 0 test) a b → Emits (block body) (b ++ held ∷ []) c → d ≡ set c (length b) (lined (Unless (Temp 0) (length c)) line)

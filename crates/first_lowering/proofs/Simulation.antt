@@ -135,14 +135,14 @@ acts m (Next w line ∷ todo) values vars b d h g s = works m w line todo values
 acts m (Pick body line ∷ todo) _ vars b _ (topped _ v _ e bottom) g s =
     let w = begins_when m b (read_as todo 0).open_blocks (Temp 0) line (block body c.End) (read_as todo 0).now s in
     silently m (state (if v == 0 then todo else Run body ∷ Joined ∷ todo) [] vars) b (moves (moves b w.comes.k) (if b.here.regs (Temp 0) == 0 then w.target else suc w.comes.k)) (Unless (Temp 0) w.target) line _ w.comes refl
-      (picks m todo (Run body ∷ Joined ∷ todo) vars b v w.comes.k w.target (v == 0) refl e g w.comes.known.0 w.comes.known.1)
+    (picks m todo (Run body ∷ Joined ∷ todo) vars b v w.comes.k w.target (v == 0) refl e g w.comes.known.0 w.comes.known.1)
 acts m (Joined ∷ todo) _ vars b _ bottom g s =
     let w = ends_block m b (read_as todo 0).open_blocks (read_as todo 0).now s in
     (moves b w.k, w.quiet, fits_at m todo [] vars b 0 w.k bottom g w.known)
 acts m (Test test body line back ∷ todo) _ vars b _ (topped _ v _ e bottom) g s =
     let w = tests_loop m b (read_as todo 0).open_blocks (Temp 0) line (block body (Round back)) (loop_body test body line back) (read_as todo 0).now s in
     silently m (state (if v == 0 then todo else Run body ∷ Again test body line back ∷ todo) [] vars) b (moves (moves b w.comes.k) (if b.here.regs (Temp 0) == 0 then w.target else suc w.comes.k)) (Unless (Temp 0) w.target) line _ w.comes refl
-      (picks m todo (Run body ∷ Again test body line back ∷ todo) vars b v w.comes.k w.target (v == 0) refl e g w.comes.known.0 w.comes.known.1)
+    (picks m todo (Run body ∷ Again test body line back ∷ todo) vars b v w.comes.k w.target (v == 0) refl e g w.comes.known.0 w.comes.known.1)
 acts m (Again test body line back ∷ todo) _ vars b _ bottom g s =
     let w = goes_round m b (read_as todo 0).open_blocks back (loop_body test body line back) (read_as todo 0).now s in
     (moves b w.comes.k, moves b w.target, w.comes.quiet, w.comes.done, fits_at m (Next (Evaluate test) line ∷ Test test body line back ∷ todo) [] vars b 0 w.target bottom g w.comes.known)

@@ -13,7 +13,8 @@ use Rattle.mid_flow.specs.Laws.{IsStraight, IsWhole}
 use Rattle.mid_flow.specs.Written.{Known, with_known, AreKnown, Begins, Inside, Nowhere, IsWritten}
 use Rattle.mid_flow.specs.Written as w
 use Rattle.mid_flow.proofs.Safety.{Within, within_more, Safe, live_known}
-use Rattle.mid_flow.proofs.Targets.{flat_targets, flat_length, found_below, target_below}
+use Rattle.mid_code.proofs.Marks.{found_below}
+use Rattle.mid_flow.proofs.Targets.{flat_targets, flat_length, target_below}
 use Rattle.first_language.specs.declared.tree.Operator.{Operator}
 use Rattle.first_language.specs.declared.tree.Operator.TheVariants.{Times, Quotient, Remainder, Plus, Minus, Same, Other, Less, AtMost, More, AtLeast}
 use Rattle.first_language.specs.Tree.{Tree, Literal, Variable, Parenthesised, Apply, Statement, Declare, DeclareWith, Assign, Print, If, While, Block, End, Then, Program}
@@ -60,9 +61,9 @@ expression_written known inside n line d (Variable x) rest has uses f =
 expression_written known inside n line d (Parenthesised e) rest has uses f = expression_written known inside n line d e rest has uses f
 expression_written known inside n line d (Apply op left right) rest has uses f =
     expression_written known inside n line d left _ has uses.0 (λ one in_one left_is.
-      expression_written one inside n line (suc d) right _ (λ x less. in_one (Var x) (has x less)) uses.1 (λ two in_two right_is.
-        operation_written two inside op d line rest (in_two (Temp d) left_is) right_is
-          (f (with_known (Some (Temp d)) two) (λ r is. within_more (Some (Temp d)) two r (in_two r (in_one r is))) (temp_known two d))))
+    expression_written one inside n line (suc d) right _ (λ x less. in_one (Var x) (has x less)) uses.1 (λ two in_two right_is.
+    operation_written two inside op d line rest (in_two (Temp d) left_is) right_is
+    (f (with_known (Some (Temp d)) two) (λ r is. within_more (Some (Temp d)) two r (in_two r (in_one r is))) (temp_known two d))))
 
 expression_begins : (line d : ℕ) (e : Tree) (rest : Code) → Begins (expression line d e rest)
 expression_begins line d (Literal v) rest = tt
@@ -75,7 +76,7 @@ kept_written : (known : Known) (inside : Inside) (n line x : ℕ) (e : Tree) (re
     → ((more : Known) → Within known more → more (Var x) ≡ true → IsWritten more inside rest) → IsWritten known inside (statement (Assign x e line) rest)
 kept_written known inside n line x e rest has uses f =
     expression_written known inside n line 0 e _ has uses (λ more wider first_is.
-      (tt, (first_is, tt), f (with_known (Some (Var x)) more) (λ r is. within_more (Some (Var x)) more r (wider r is)) (var_known more x)))
+    (tt, (first_is, tt), f (with_known (Some (Var x)) more) (λ r is. within_more (Some (Var x)) more r (wider r is)) (var_known more x)))
 
 mutual
   statement_written : (known : Known) (inside : Inside) (n : ℕ) (s : Statement) (rest : Code) → Has n known → IsInner n s → ForMore known (λ more. IsWritten more inside rest) → IsWritten known inside (statement s rest)
@@ -86,18 +87,19 @@ mutual
       expression_written known inside n line 0 e _ has inner (λ more wider first_is. (lit< tt, (first_is, tt), (lit< tt, tt, f more wider)))
   statement_written known inside n (If test body line) rest has inner f =
       expression_written known inside n line 0 test _ has inner.0 (λ more wider first_is.
-        (first_is, block_written more w.Block n body c.End (λ x less. wider (Var x) (has x less)) inner.1 (λ other wide. tt), f more wider))
-  statement_written known inside n (While test body line back) rest has inner f =
-      (expression_begins line 0 test _,
-       expression_written known w.Cycle n line 0 test _ has inner.0 (λ more wider first_is.
-         (tt, first_is, block_written more w.Cycle n body (c.Round back) (λ x less. wider (Var x) (has x less)) inner.1 (λ other wide. tt))),
-       f known (λ r is. is))
+      (first_is, block_written more w.Block n body c.End (λ x less. wider (Var x) (has x less)) inner.1 (λ other wide. tt), f more wider))
+  statement_written known inside n (While test body line back) rest has inner f = (
+    expression_begins line 0 test _,
+    expression_written known w.Cycle n line 0 test _ has inner.0 (λ more wider first_is.
+        (tt, first_is, block_written more w.Cycle n body (c.Round back) (λ x less. wider (Var x) (has x less)) inner.1 (λ other wide. tt))),
+    f known (λ r is. is),
+  )
 
   block_written : (known : Known) (inside : Inside) (n : ℕ) (b : Block) (rest : Code) → Has n known → AreInner n b → ForMore known (λ more. IsWritten more inside rest) → IsWritten known inside (block b rest)
   block_written known inside n End rest has inner f = f known (λ r is. is)
   block_written known inside n (Then first others) rest has inner f =
       statement_written known inside n first _ has inner.0 (λ more wider.
-        block_written more inside n others rest (λ x less. wider (Var x) (has x less)) inner.1 (λ other wide. f other (λ r is. wide r (wider r is))))
+      block_written more inside n others rest (λ x less. wider (Var x) (has x less)) inner.1 (λ other wide. f other (λ r is. wide r (wider r is))))
 
 -- one variable more
 has_more : (n x : ℕ) (known more : Known) → Has n known → Within known more → x ≡ n → more (Var x) ≡ true → Has (suc n) more
@@ -115,7 +117,7 @@ main_written known inside n (Then (Declare x line) others) rest has declared f =
     (tt, tt, main_written more inside (suc n) others rest (has_more n x known more has (within_more (Some (Var x)) known) declared.0 (var_known known x)) declared.1 (λ other wide. f other (λ r is. wide r (within_more (Some (Var x)) known r is))))
 main_written known inside n (Then (DeclareWith x e line) others) rest has declared f =
     kept_written known inside n line x e _ has declared.1 (λ more wider is.
-      main_written more inside (suc n) others rest (has_more n x known more has wider declared.0 is) declared.2 (λ other wide. f other (λ r is. wide r (wider r is))))
+    main_written more inside (suc n) others rest (has_more n x known more has wider declared.0 is) declared.2 (λ other wide. f other (λ r is. wide r (wider r is))))
 main_written known inside n (Then (Assign x e line) others) rest has declared f = statement_written known inside n (Assign x e line) _ has declared.0 (λ more wider. main_written more inside n others rest (λ y less. wider (Var y) (has y less)) declared.1 (λ other wide. f other (λ r is. wide r (wider r is))))
 main_written known inside n (Then (Print e line) others) rest has declared f = statement_written known inside n (Print e line) _ has declared.0 (λ more wider. main_written more inside n others rest (λ y less. wider (Var y) (has y less)) declared.1 (λ other wide. f other (λ r is. wide r (wider r is))))
 main_written known inside n (Then (If test body line) others) rest has declared f = statement_written known inside n (If test body line) _ has declared.0 (λ more wider. main_written more inside n others rest (λ y less. wider (Var y) (has y less)) declared.1 (λ other wide. f other (λ r is. wide r (wider r is))))
@@ -127,12 +129,12 @@ nothing_known r = false
 -- the main module as it begins
 main_safe : (p : Program) → IsDeclared p → Safe (code_of (lowered p)) 0 nothing_known 0
 main_safe p declared = record {
-    code = main_block p;
-    open_blocks = c.After (c.Then (call main_end) p.last_line c.Nothing) ∷ [];
-    stands = main_stands p;
-    written = main_written nothing_known w.Block 0 p.statements c.End (λ x less. absurd (omega arith)) declared (λ more wider. tt);
-    blocks = (nothing_known, (λ r is. is), (lit< tt, tt, tt), tt)
-  }
+  code = main_block p;
+  open_blocks = c.After (c.Then (call main_end) p.last_line c.Nothing) ∷ [];
+  stands = main_stands p;
+  written = main_written nothing_known w.Block 0 p.statements c.End (λ x less. absurd (omega arith)) declared (λ more wider. tt);
+  blocks = (nothing_known, (λ r is. is), (lit< tt, tt, tt), tt);
+}
 
 never : (p : Program) → IsDeclared p → (r : Reg) → Live (code_of (lowered p)) 0 0 r → ⊥
 never p declared r live = let e : false ≡ true = live_known (code_of (lowered p)) 0 0 r live nothing_known (main_safe p declared) in cc
@@ -146,6 +148,10 @@ exist p i t op is target =
     let below = flat_targets code (spot end 0 ∷ []) 0 (last_op p ∷ []) (suc end) whole (omega arith) (omega arith) (omega arith) (tt, tt) in
     found_below (main_ops p) t (omega (arith, long, target_below (main_ops p) (suc end) i t op below is target))
 
+main_sound : (p : Program) → IsDeclared p → IsSound (code_of (lowered p)) 0
+main_sound p declared = record { written = never p declared; targets = exist p }
+
 -- Middle code of a program whose variables are declared reads no register before it is written, and its targets exist.
 pub lowering_sound : LoweringIsSound
-lowering_sound p declared = record { written = never p declared; targets = exist p }
+lowering_sound p declared zero less = main_sound p declared
+lowering_sound p declared (suc n) less = absurd (omega arith)

@@ -3,8 +3,9 @@ use Rattle.std.specs.Prelude.{ℕ, List, [], ◌∷◌}
 use Rattle.thread_system.specs.Memory.{Memory}
 use Rattle.thread_system.specs.Segment.{End, Segment}
 use Rattle.thread_system.specs.Simulation.{Matches, SameEnd}
-use Rattle.mid_code.specs.Flow.{AreLawful, IsSound}
+use Rattle.mid_code.specs.Flow.{AreLawful}
 use Rattle.mid_code.specs.Operations.{MidCode, code_of}
+use Rattle.mid_code.specs.Paths.{AllSound}
 use Rattle.mid_code.specs.Step.{MidState, mid_step, first_state}
 use Rattle.first_language.specs.Tree.{Program}
 use Rattle.first_lowering.specs.Variables.{IsDeclared}
@@ -34,4 +35,4 @@ LoweringIsLawful = (p : Program) → AreLawful 0 (main_ops p)
 -- middle code of a program whose variables are declared reads no register before it is written, and its jumps' targets
 -- exist
 abbrev pub LoweringIsSound : Type 0
-LoweringIsSound = (p : Program) → IsDeclared p → IsSound (code_of (lowered p)) 0
+LoweringIsSound = (p : Program) → IsDeclared p → AllSound (lowered p)

@@ -27,18 +27,14 @@ pub fn number(n: u64) -> Result<u32, NoMemory>
 pub fn temp(d: u64) -> Result<Reg, NoMemory>
     ensures { IfOk result (λ r. (r ≡ Temp d) × (d < 2 ^ 32)) }
 {
-    Ok(Reg::Temp {
-        number: number(d)?,
-    })
+    Ok(Reg::Temp { number: number(d)? })
 }
 
 /// The register of a variable.
 pub fn variable(x: u64) -> Result<Reg, NoMemory>
     ensures { IfOk result (λ r. r ≡ Var x) }
 {
-    Ok(Reg::Var {
-        number: number(x)?,
-    })
+    Ok(Reg::Var { number: number(x)? })
 }
 
 fn word(op: WordOp, low: Reg, left: Reg, right: Reg) -> MidOp

@@ -4,6 +4,8 @@
 mod emit;
 mod law;
 mod program;
+#[cfg(test)]
+mod tests;
 
 pub use law::lowering;
 pub use program::lower;

@@ -3,7 +3,9 @@ ghost use Rattle.mid_flow.specs.Emission.{Emits};
 ghost use Rattle.first_language.specs.Tree.{Assign, Declare, If, Print, While, block_of, program_of, statement_of, tree_of};
 ghost use Rattle.first_lowering.specs.Lowering.{block, expression, lowered, statement};
 
-use crate::emit::{FIRST, call, call_with_value, keep, number, operation, put, put_test, temp, variable};
+use crate::emit::{
+    FIRST, call, call_with_value, keep, number, operation, put, put_test, temp, variable,
+};
 use fb_base::{NoMemory, Sequence};
 use first_language::{Expr, Program, Stmt};
 use mid_code::{LinedOp, MidOp, MidProc, MidProgram};
@@ -11,7 +13,9 @@ use std::alloc::Global;
 
 /// The runtime calls that print a signed number, end a line of output, and end the main module.
 const PRINT_SIGNED: u8 = 40;
+
 const PRINT_LINE: u8 = 45;
+
 const MAIN_END: u8 = 64;
 
 /// What holds a test's place until its target is known.
@@ -95,16 +99,16 @@ fn put_if(ops: &mut Vec<LinedOp>, body: &[Stmt], test: &Expr, line: u64) -> Resu
 fn put_while(
     ops: &mut Vec<LinedOp>,
     body: &[Stmt],
-    test: &Expr,
+    condition: &Expr,
     line: u64,
     back: u64,
 ) -> Result<(), NoMemory>
-    ensures { OnOk result (Emits (statement (While (tree_of test.now) (block_of body.now) line back)) ops.old.items ops.new.items) }
+    ensures { OnOk result (Emits (statement (While (tree_of condition.now) (block_of body.now) line back)) ops.old.items ops.new.items) }
 {
     let line = number(line)?;
     let back = number(back)?;
     let target = number(ops.len() as u64)?;
-    put_expression(ops, line, 0, test)?;
+    put_expression(ops, line, 0, condition)?;
     let at = ops.len();
     put(ops, HELD, line)?;
     put_block(ops, body)?;

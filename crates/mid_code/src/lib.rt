@@ -4,6 +4,9 @@
 mod op;
 mod program;
 mod reg;
+mod search;
+#[cfg(test)]
+mod tests;
 
 pub use op::{Division, LinedOp, MidOp, WordOp};
 pub use program::{MidProc, MidProgram};

@@ -31,7 +31,7 @@ emits_both f g a b c first second =
       piece = p ++ q;
       new_is = second.new_is ∙ (ap (λ xs. xs ++ q) first.new_is ∙ append_assoc a p q);
       flat_is = λ rest ss more. first.flat_is (g rest) ss more ∙ (ap (λ xs. p ++ xs) (second.flat_is rest ss more) ∙ sym (append_assoc p q (flat rest ss (length c) more)));
-      end_is = λ rest. first.end_is (g rest) ∙ second.end_is rest
+      end_is = λ rest. first.end_is (g rest) ∙ second.end_is rest;
     }
 
 -- A test in front of a block: the test's target is written once the block is there.
@@ -47,13 +47,13 @@ emits_when f test line old c held h =
       piece = jump ∷ p;
       new_is = ap (λ xs. set xs (length old) jump) is ∙ set-append_seam old held p jump;
       flat_is = λ rest ss more. rw (out, long) (ap (λ xs. jump ∷ xs) (subst (λ n. flat (f End) (spot (length c) 0 ∷ ss) n (flat rest ss (length c) more) ≡ p ++ flat rest ss (length c) more) e (h.flat_is End (spot (length c) 0 ∷ ss) (flat rest ss (length c) more))));
-      end_is = λ rest. rw (out, long) refl
+      end_is = λ rest. rw (out, long) refl;
     }
 
 -- A loop with its test at its beginning: likewise.
 pub emits_loop : (f g : Code → Code) (test : Reg) (line back : ℕ) (a b c : List LinedOp) (held : LinedOp) → Emits f a b → Emits g (b ++ held ∷ []) c
     → let d = c ++ lined (Back (length a)) back ∷ [] in
-      Emits (Loop (f (LeaveUnless test line (g (Round back))))) a (set d (length b) (lined (Unless test (length d)) line))
+    Emits (Loop (f (LeaveUnless test line (g (Round back))))) a (set d (length b) (lined (Unless test (length d)) line))
 emits_loop f g test line back a b c held first second =
     let p = first.piece in
     let q = second.piece in
@@ -64,7 +64,7 @@ emits_loop f g test line back a b c held first second =
     let e = longer b held in
     let body = f (LeaveUnless test line (g (Round back))) in
     let out : end_of body (length a) ≡ n =
-        first.end_is (LeaveUnless test line (g (Round back))) ∙ (subst (λ m. end_of (g (Round back)) m ≡ suc (length c)) e (second.end_is (Round back)) ∙ sym (longer c returning)) in
+    first.end_is (LeaveUnless test line (g (Round back))) ∙ (subst (λ m. end_of (g (Round back)) m ≡ suc (length c)) e (second.end_is (Round back)) ∙ sym (longer c returning)) in
     let long : length (set d (length b) jump) ≡ n = length-set d (length b) jump in
     let tail = q ++ returning ∷ [] in
     let d_is : d ≡ b ++ held ∷ tail = ap (λ xs. xs ++ returning ∷ []) second.new_is ∙ (append_assoc (b ++ held ∷ []) q (returning ∷ []) ∙ append_assoc b (held ∷ []) tail) in
@@ -72,9 +72,9 @@ emits_loop f g test line back a b c held first second =
       piece = p ++ jump ∷ tail;
       new_is = ap (λ xs. set xs (length b) jump) d_is ∙ (set-append_seam b held tail jump ∙ (ap (λ xs. xs ++ jump ∷ tail) first.new_is ∙ append_assoc a p (jump ∷ tail)));
       flat_is = λ rest ss more.
-        let more' = flat rest ss n more in
-        let inner : flat (g (Round back)) (spot n (length a) ∷ ss) (suc (length b)) more' ≡ q ++ returning ∷ more' = subst (λ m. flat (g (Round back)) (spot n (length a) ∷ ss) m more' ≡ q ++ returning ∷ more') e (second.flat_is (Round back) (spot n (length a) ∷ ss) more') in
-        rw (out, long) (first.flat_is (LeaveUnless test line (g (Round back))) (spot n (length a) ∷ ss) more'
+          let more' = flat rest ss n more in
+          let inner : flat (g (Round back)) (spot n (length a) ∷ ss) (suc (length b)) more' ≡ q ++ returning ∷ more' = subst (λ m. flat (g (Round back)) (spot n (length a) ∷ ss) m more' ≡ q ++ returning ∷ more') e (second.flat_is (Round back) (spot n (length a) ∷ ss) more') in
+          rw (out, long) (first.flat_is (LeaveUnless test line (g (Round back))) (spot n (length a) ∷ ss) more'
           ∙ (ap (λ xs. p ++ jump ∷ xs) (inner ∙ sym (append_assoc q (returning ∷ []) more')) ∙ sym (append_assoc p (jump ∷ tail) more')));
-      end_is = λ rest. rw (out, long) refl
+      end_is = λ rest. rw (out, long) refl;
     }

@@ -1,4 +1,4 @@
-use Rattle.std.proofs.Common.{◌≡◌, ℕ, suc, ◌⊎◌, inl, inr, Bool, true, false, if◌then◌else◌, List, [], ◌∷◌, Option, Some, None, refl, sym, ◌∙◌, ap, subst, unwrap_or}
+use Rattle.std.proofs.Common.{◌≡◌, ℕ, suc, ◌⊎◌, inl, inr, Bool, true, false, if◌then◌else◌, List, [], ◌∷◌, Option, Some, None, refl, sym, ◌∙◌, ap, subst}
 use Rattle.std.proofs.lemmas.Bool.{eqb-true}
 use Rattle.mid_code.specs.declared.reg.Reg.{Reg}
 use Rattle.mid_code.specs.declared.reg.Reg.TheVariants.{Temp, Var, Place}
@@ -7,6 +7,7 @@ use Rattle.mid_code.specs.declared.op.MidOp.TheVariants.{Const, Copy, Both, Divi
 use Rattle.mid_code.specs.Registers.{is_same}
 use Rattle.mid_code.specs.Operations.{MidCode}
 use Rattle.mid_code.specs.Flow.{Among, reads_of, writes_of, nexts_of, Live, reads_now, reads_later}
+use Rattle.mid_code.proofs.Marks.{some_same}
 use Rattle.mid_flow.specs.Structure.{Code, Broken, Nothing, Then, When, Loop, LeaveUnless, Round, End, Open, After, Looping, Spot, spot, out_of, top_of}
 use Rattle.mid_flow.specs.Laws.{IsStraight}
 use Rattle.mid_flow.specs.Standing.{Here, Hops, at, hop, Lies, nothing_lies, then_lies, when_lies, loop_lies, leave_lies, round_lies, end_lies, BlocksLie, no_blocks, after_lies, looping_lies, Stands}
@@ -60,9 +61,6 @@ Finds m p known k = (m.op_at p k ≡ None) ⊎ Faces m p known k
 
 same_known : (known : Known) → Within known known
 same_known known r is = is
-
-some_same : (a b : MidOp) → Some a ≡ Some b → a ≡ b
-some_same a b e = ap (λ o. unwrap_or o a) e
 
 -- a jump ahead, in front of the same
 over_jump : (m : MidCode) (p : ℕ) (known : Known) (k j line : ℕ) → Here (m.op_at p) (m.line_of p) k (Skip j) line → Safe m p known j → Finds m p known k
@@ -147,8 +145,8 @@ faces m p os ss blocks known (When test line body rest) k (when_lies _ _ _ _ _ _
     over_jump m p known k j l here (record { code = When test line body rest; open_blocks = os; stands = record { spots = ss; lies = when_lies ss test line body rest j k0 last top more there inner after; blocks = blocks }; written = w; blocks = b })
 faces m p os ss blocks known (When test line body rest) k (when_lies _ _ _ _ _ _ _ last top (at _) there inner after) w b =
     tests_face m p known known k last line test there w.0 (same_known known)
-      (record { code = rest; open_blocks = os; stands = record { spots = ss; lies = after; blocks = blocks }; written = w.2; blocks = b })
-      (record { code = body; open_blocks = After rest ∷ os; stands = record { spots = spot last top ∷ ss; lies = inner; blocks = after_lies rest os (spot last top) ss after blocks }; written = w.1; blocks = (known, same_known known, w.2, b) })
+    (record { code = rest; open_blocks = os; stands = record { spots = ss; lies = after; blocks = blocks }; written = w.2; blocks = b })
+    (record { code = body; open_blocks = After rest ∷ os; stands = record { spots = spot last top ∷ ss; lies = inner; blocks = after_lies rest os (spot last top) ss after blocks }; written = w.1; blocks = (known, same_known known, w.2, b) })
 faces m p os ss blocks known (Loop (Then op line body) rest) k (loop_lies _ _ _ _ k0 last (hop _ j _ l here more) inner after) w b =
     over_jump m p known k j l here (record { code = Loop (Then op line body) rest; open_blocks = os; stands = record { spots = ss; lies = loop_lies ss (Then op line body) rest j k0 last more inner after; blocks = blocks }; written = w; blocks = b })
 faces m p os ss blocks known (Loop (Then op line body) rest) k (loop_lies _ _ _ _ _ last (at _) inner after) w b =
@@ -159,28 +157,28 @@ faces m p os ss blocks known (LeaveUnless test line rest) k (leave_lies _ _ _ _ 
 faces m p _ _ (no_blocks ss) known (LeaveUnless test line rest) k (leave_lies _ _ _ _ _ _ (at _) there inner) w b = absurd w.0
 faces m p _ _ (after_lies outer os s ss after blocks) known (LeaveUnless test line rest) k (leave_lies _ _ _ _ _ _ (at _) there inner) w b =
     tests_face m p known b.0 k s.out line test there w.1 b.1
-      (record { code = outer; open_blocks = os; stands = record { spots = ss; lies = after; blocks = blocks }; written = b.2; blocks = b.3 })
-      (record { code = rest; open_blocks = After outer ∷ os; stands = record { spots = s ∷ ss; lies = inner; blocks = after_lies outer os s ss after blocks }; written = w.2; blocks = b })
+    (record { code = outer; open_blocks = os; stands = record { spots = ss; lies = after; blocks = blocks }; written = b.2; blocks = b.3 })
+    (record { code = rest; open_blocks = After outer ∷ os; stands = record { spots = s ∷ ss; lies = inner; blocks = after_lies outer os s ss after blocks }; written = w.2; blocks = b })
 faces m p _ _ (looping_lies body outer os s ss after again blocks) known (LeaveUnless test line rest) k (leave_lies _ _ _ _ _ _ (at _) there inner) w b =
     tests_face m p known b.0 k s.out line test there w.1 b.1
-      (record { code = outer; open_blocks = os; stands = record { spots = ss; lies = after; blocks = blocks }; written = b.3; blocks = b.4 })
-      (record { code = rest; open_blocks = Looping body outer ∷ os; stands = record { spots = s ∷ ss; lies = inner; blocks = looping_lies body outer os s ss after again blocks }; written = w.2; blocks = b })
+    (record { code = outer; open_blocks = os; stands = record { spots = ss; lies = after; blocks = blocks }; written = b.3; blocks = b.4 })
+    (record { code = rest; open_blocks = Looping body outer ∷ os; stands = record { spots = s ∷ ss; lies = inner; blocks = looping_lies body outer os s ss after again blocks }; written = w.2; blocks = b })
 faces m p os ss blocks known (Round line) k (round_lies _ _ _ k0 (hop _ j _ l here more) there) w b =
     over_jump m p known k j l here (record { code = Round line; open_blocks = os; stands = record { spots = ss; lies = round_lies ss line j k0 more there; blocks = blocks }; written = w; blocks = b })
 faces m p _ _ (no_blocks ss) known (Round line) k (round_lies _ _ _ _ (at _) there) w b = absurd w
 faces m p _ _ (after_lies outer os s ss after blocks) known (Round line) k (round_lies _ _ _ _ (at _) there) w b = absurd w
 faces m p _ _ (looping_lies body outer os s ss after again blocks) known (Round line) k (round_lies _ _ _ _ (at _) there) w b =
     back_faces m p known b.0 k s.top line there b.1
-      (record { code = body; open_blocks = Looping body outer ∷ os; stands = record { spots = s ∷ ss; lies = again; blocks = looping_lies body outer os s ss after again blocks }; written = b.2.1; blocks = (b.0, same_known b.0, b.2, b.3, b.4) })
+    (record { code = body; open_blocks = Looping body outer ∷ os; stands = record { spots = s ∷ ss; lies = again; blocks = looping_lies body outer os s ss after again blocks }; written = b.2.1; blocks = (b.0, same_known b.0, b.2, b.3, b.4) })
 faces m p _ _ (no_blocks ss) known End k lies w b = absurd w
 faces m p _ _ (after_lies outer os s ss after blocks) known End k (end_lies _ _ hops) w b =
     end_faces m p known k s.out hops
-      (λ j more. record { code = End; open_blocks = After outer ∷ os; stands = record { spots = s ∷ ss; lies = end_lies (s ∷ ss) j more; blocks = after_lies outer os s ss after blocks }; written = w; blocks = b })
-      (finds_more m p b.0 known s.out b.1 (faces m p os ss blocks b.0 outer s.out after b.2 b.3))
+    (λ j more. record { code = End; open_blocks = After outer ∷ os; stands = record { spots = s ∷ ss; lies = end_lies (s ∷ ss) j more; blocks = after_lies outer os s ss after blocks }; written = w; blocks = b })
+    (finds_more m p b.0 known s.out b.1 (faces m p os ss blocks b.0 outer s.out after b.2 b.3))
 faces m p _ _ (looping_lies body outer os s ss after again blocks) known End k (end_lies _ _ hops) w b =
     end_faces m p known k s.out hops
-      (λ j more. record { code = End; open_blocks = Looping body outer ∷ os; stands = record { spots = s ∷ ss; lies = end_lies (s ∷ ss) j more; blocks = looping_lies body outer os s ss after again blocks }; written = w; blocks = b })
-      (finds_more m p b.0 known s.out b.1 (faces m p os ss blocks b.0 outer s.out after b.3 b.4))
+    (λ j more. record { code = End; open_blocks = Looping body outer ∷ os; stands = record { spots = s ∷ ss; lies = end_lies (s ∷ ss) j more; blocks = looping_lies body outer os s ss after again blocks }; written = w; blocks = b })
+    (finds_more m p b.0 known s.out b.1 (faces m p os ss blocks b.0 outer s.out after b.3 b.4))
 
 among_known : (known : Known) (r : Reg) (rs : List Reg) → AreKnown known rs → Among r rs → known r ≡ true
 among_known known r [] h none = absurd none

@@ -59,12 +59,6 @@ flat_length (LeaveUnless test line rest) ss k more whole = omega (arith, flat_le
 flat_length (Round line) ss k more whole = omega arith
 flat_length End ss k more whole = refl
 
--- a target that is below the length of the list exists
-pub found_below : (os : List LinedOp) (t : ℕ) → t < length os → (after : MidOp) × (op_in os t ≡ Some after)
-found_below [] t less = absurd (omega arith)
-found_below (o ∷ os) zero less = (o.op, refl)
-found_below (o ∷ os) (suc t) less = found_below os t (omega arith)
-
 some_op : (a b : MidOp) → Some a ≡ Some b → (n : ℕ) → IsBelow n (target_of a) → IsBelow n (target_of b)
 some_op a b e n h =
     let P : Option MidOp → Type 0 = λ o. IsBelow n (option_and_then target_of o) in

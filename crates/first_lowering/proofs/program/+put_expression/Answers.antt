@@ -19,5 +19,5 @@ returns-in_ok-put_expression-in-Apply-2 t c =
     let is : tree_of c.args.e.now ≡ Apply c.in-Apply.op l r = ap tree_of c.in-Apply.is ∙ (tree_apply c.in-Apply.op _ _ ∙ rw (c.get-in-Apply.ensures, c.get-in-Apply-2.ensures) refl) in
     let up : c.args.d + 1 ≡ suc c.args.d = omega arith in
     rw is (on_ok_weaker c.put-in-Apply.result
-      (λ new. emits_apply c.in-Apply.op c.args.line c.args.d l r _ _ _ _ c.in_ok-put_expression-in-Apply.ensures (rw up at c.in_ok-put_expression-in-Apply-2.ensures) (rw c.in_ok-op-in-Apply.ensures.0 at new))
-      c.put-in-Apply.ensures)
+    (λ new. emits_apply c.in-Apply.op c.args.line c.args.d l r _ _ _ _ c.in_ok-put_expression-in-Apply.ensures (rw up at c.in_ok-put_expression-in-Apply-2.ensures) (rw c.in_ok-op-in-Apply.ensures.0 at new))
+    c.put-in-Apply.ensures)

@@ -25,8 +25,8 @@ pub put_if-returns : goal.put_if-returns
 put_if-returns t c =
     let at : c.len-at.result ≡ length c.put_expression.new.ops.items = c.len-at.ensures ∙ c.put_expression.new.ops.ok.0 in
     rw (← c.in_ok-line.ensures.0) (on_ok_weaker c.put_test.result
-      (λ new. emits_if (tree_of c.args.test.now) (block_of c.args.body.now) c.in_ok-line.line _ _ _ _ _ c.in_ok-put_expression.ensures (rw c.in_ok-put.ensures at c.in_ok-put_block.ensures) (rw at at new))
-      c.put_test.ensures)
+    (λ new. emits_if (tree_of c.args.test.now) (block_of c.args.body.now) c.in_ok-line.line _ _ _ _ _ c.in_ok-put_expression.ensures (rw c.in_ok-put.ensures at c.in_ok-put_block.ensures) (rw at at new))
+    c.put_test.ensures)
 
 pub put_statement-returns-in-If : goal.put_statement-returns-in-If
 put_statement-returns-in-If t c =
@@ -43,5 +43,5 @@ put_while-returns t c =
     let at : c.len-at.result ≡ length c.put_expression.new.ops.items = c.len-at.ensures ∙ c.put_expression.new.ops.ok.0 in
     let top : c.in_ok-target.target ≡ length c.args.ops.now.items = c.in_ok-target.ensures.0 ∙ (c.len.ensures ∙ c.args.ops.now.ok.0) in
     rw (← c.in_ok-line.ensures.0, ← c.in_ok-back.ensures.0) (on_ok_weaker c.put_test.result
-      (λ new. emits_while (tree_of c.args.test.now) (block_of c.args.body.now) c.in_ok-line.line c.in_ok-back.back _ _ _ _ _ _ c.in_ok-put_expression.ensures (rw c.in_ok-put.ensures at c.in_ok-put_block.ensures) (rw top at c.in_ok-put-2.ensures) (rw at at new))
-      c.put_test.ensures)
+    (λ new. emits_while (tree_of c.args.condition.now) (block_of c.args.body.now) c.in_ok-line.line c.in_ok-back.back _ _ _ _ _ _ c.in_ok-put_expression.ensures (rw c.in_ok-put.ensures at c.in_ok-put_block.ensures) (rw top at c.in_ok-put-2.ensures) (rw at at new))
+    c.put_test.ensures)
