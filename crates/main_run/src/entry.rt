@@ -15,12 +15,7 @@ use rv_step::Cpu;
 use std::alloc::Global;
 
 /// Runs a segment, and finds what its end asks for.
-fn next_entry(
-    alloc: Global,
-    image: &Image,
-    cpu: &mut Cpu,
-    turns: u64,
-) -> Result<Prepared, NoMemory>
+fn next_entry(alloc: Global, image: &Image, cpu: &mut Cpu, turns: u64) -> Result<Prepared, NoMemory>
     ensures entry { IfOk result (λ prepared. Entry (isa.machine_step (machine_of image.now cpu.old.low)) turns (cpu_of cpu.old) (bytes_of prepared) (standing_of (cpu_of cpu.new) prepared)) }
     ensures low { cpu.new.low ≡ cpu.old.low }
 {

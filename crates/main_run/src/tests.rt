@@ -4,6 +4,7 @@ use fb_image::{Image, read};
 use host_edge::{MemSink, SureSource};
 use rv_isa::{Imm, Inst, Jump, Reg, encode};
 use std::alloc::Global;
+use std::process::Abort;
 use std::test::Fail;
 
 /// The word of `addi rd, x0, value`.
@@ -36,7 +37,7 @@ fn stay() -> u32 {
 /// of its own, from 11 on.
 fn spelt(alloc: Global, words: &[u32]) -> Result<Vec<u8>, Fail> {
     let mut bytes = Vec::from_slice(alloc, b"FBRV")?;
-    let count = words.len() as u32;
+    let count = u32::try_from(words.len()).unwrap_or(0);
     for number in [1, count, 1, 1, 0, count] {
         bytes.extend_from_slice(&number.to_le_bytes())?;
     }
@@ -55,6 +56,7 @@ fn spelt(alloc: Global, words: &[u32]) -> Result<Vec<u8>, Fail> {
 
 /// The run of an image of these code words, with an output whose puts of these numbers fail.
 fn run(
+    rt: &impl Abort,
     alloc: Global,
     words: &[u32],
     turns: u64,
@@ -62,12 +64,10 @@ fn run(
     failing: &[u32],
 ) -> Result<Solo<SureSource, MemSink>, Fail> {
     let bytes = spelt(alloc, words)?;
-    if bytes.len() > 1000 {
-        return Err(Fail);
-    }
-    let Ok(image) = read(alloc, bytes.as_slice()) else {
-        return Err(Fail);
-    };
+    assert!(rt; bytes.len() < 1000);
+    let image = read(alloc, bytes.as_slice())
+        .ok()
+        .expect(rt, "the bytes are an image");
     let input = SureSource::new(Text::of(alloc, b"left")?, 1);
     let out = MemSink::new(alloc, Schedule::of(alloc, failing)?);
     Ok(solo(alloc, image, input, out, turns, entries))
@@ -118,7 +118,7 @@ fn a_program_prints_and_ends(rt: HostRuntime) -> Result<(), Fail> {
         put(17, 64),
         call(),
     ];
-    let run = run(rt.alloc(), &words, 0, 100, &[])?;
+    let run = run(&rt, rt.alloc(), &words, 0, 100, &[])?;
     assert!(rt; comes_to(&run, (0, None, 0), b" 7 0-3\n", 5));
     Ok(())
 }
@@ -149,7 +149,7 @@ fn traps_have_their_lines(rt: HostRuntime) -> Result<(), Fail> {
         (&[put(17, 99), call(), call()], (80, Some(none), 12)),
     ];
     for (words, ending) in rows {
-        let run = run(rt.alloc(), words, 9, 9, &[])?;
+        let run = run(&rt, rt.alloc(), words, 9, 9, &[])?;
         assert!(rt; comes_to(&run, ending, b"", 1));
     }
     Ok(())
@@ -157,7 +157,7 @@ fn traps_have_their_lines(rt: HostRuntime) -> Result<(), Fail> {
 
 #[test]
 fn limits_end_a_run(rt: HostRuntime) -> Result<(), Fail> {
-    let endless = run(rt.alloc(), &[put(5, 1), stay()], 3, 9, &[])?;
+    let endless = run(&rt, rt.alloc(), &[put(5, 1), stay()], 3, 9, &[])?;
     assert!(rt; comes_to(&endless, (83, None, 12), b"", 1));
     let printing = [put(17, 45), call(), call(), put(17, 64), call()];
     let rows: [(u32, Told, &[u8], usize); 4] = [
@@ -167,7 +167,7 @@ fn limits_end_a_run(rt: HostRuntime) -> Result<(), Fail> {
         (3, (0, None, 0), b"\n\n", 3),
     ];
     for (entries, ending, output, made) in rows {
-        let run = run(rt.alloc(), &printing, 9, entries, &[])?;
+        let run = run(&rt, rt.alloc(), &printing, 9, entries, &[])?;
         assert!(rt; comes_to(&run, ending, output, made));
     }
     Ok(())
@@ -176,7 +176,7 @@ fn limits_end_a_run(rt: HostRuntime) -> Result<(), Fail> {
 #[test]
 fn a_fault_of_the_output_ends_a_run(rt: HostRuntime) -> Result<(), Fail> {
     let words = [put(10, 7), put(17, 40), call(), call(), call()];
-    let run = run(rt.alloc(), &words, 9, 9, &[2])?;
+    let run = run(&rt, rt.alloc(), &words, 9, 9, &[2])?;
     assert!(rt; comes_to(&run, (73, None, 0), b" 7", 2));
     Ok(())
 }
