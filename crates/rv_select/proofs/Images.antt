@@ -1,10 +1,12 @@
-use Rattle.std.proofs.Common.{◌≡◌, ℕ, zero, suc, ◌+◌, ◌^◌, ◌<◌, ◌≤◌, inl, List, [], ◌∷◌, ◌++◌, length, refl, ap, sym, subst, arith, length-append}
+use Rattle.std.proofs.Common.{Some, slice_get, option_and_then, ◌≡◌, ℕ, zero, suc, ◌+◌, ◌^◌, ◌<◌, ◌≤◌, inl, List, [], ◌∷◌, ◌++◌, length, refl, ap, sym, subst, arith, length-append}
 use Rattle.std.specs.List.{AllByRecursion}
 use Rattle.thread_system.specs.Memory.{Memory}
 use Rattle.thread_system.specs.Segment.{End, Segment}
 use Rattle.thread_system.specs.Simulation.{Simulates, SameEnd}
 use Rattle.thread_system.proofs.Carrying.{carries}
 use Rattle.fb_image.specs.Format.{KeepsRules}
+use Rattle.fb_image.specs.Lines.{line_of}
+use Rattle.rv_isa.specs.Encoding.{inst_of}
 use Rattle.fb_image.specs.declared.image.ImageParts.{ImageParts}
 use Rattle.mid_code.specs.declared.op.LinedOp.{LinedOp}
 use Rattle.mid_code.specs.Operations.{ops_of, code_of}
@@ -29,6 +31,10 @@ image_has procs thread is = record {
   fetch = λ k i there. word_fetched (selected procs) k i (selected_lined procs is.lawful) there;
   line = λ k i there. line_found (selected procs) k i (selected_numbered procs is.lines) there;
 }
+
+pub words_read : (procs : List (List LinedOp)) → IsProgram procs → (k : ℕ) (i : LinedInst) → slice_get (selected procs) k ≡ Some i
+    → (option_and_then inst_of (slice_get (parts_of procs).code k) ≡ Some i.inst) × (line_of (parts_of procs).lines k ≡ i.line)
+words_read procs is k i there = (word_fetched (selected procs) k i (selected_lined procs is.lawful) there, line_found (selected procs) k i (selected_numbered procs is.lines) there)
 
 lawful_at : (procs : List (List LinedOp)) → AllByRecursion (AreLawful 0) procs → (p : ℕ) → AreLawful 0 (ops_of procs p)
 lawful_at [] all p = tt

@@ -1,18 +1,21 @@
 -- What is promised of selected code.
-use Rattle.std.specs.Prelude.{ℕ, ◌^◌, ◌<◌, ◌≤◌, List, length}
+use Rattle.std.specs.Prelude.{◌≡◌, ℕ, ◌^◌, ◌<◌, ◌≤◌, List, length, Some, slice_get, option_and_then}
 use Rattle.std.specs.List.{AllByRecursion}
 use Rattle.thread_system.specs.Memory.{Memory}
 use Rattle.thread_system.specs.Segment.{End, Segment}
 use Rattle.thread_system.specs.Simulation.{Simulates, SameEnd}
 use Rattle.fb_image.specs.Format.{KeepsRules}
+use Rattle.fb_image.specs.Lines.{line_of}
 use Rattle.mid_code.specs.declared.op.LinedOp.{LinedOp}
 use Rattle.mid_code.specs.Operations.{code_of}
 use Rattle.mid_code.specs.Flow.{Live, IsSound, AreLawful}
 use Rattle.mid_code.specs.Step.{MidState, first_state, mid_step}
 use Rattle.rv_isa.specs.Machine.{Cpu, Machine, machine_step}
+use Rattle.rv_isa.specs.Encoding.{inst_of}
 use Rattle.rv_step.specs.State.{stack_of, machine_of, first_cpu}
 use Rattle.rv_select.specs.Image.{parts_of}
-use Rattle.rv_select.specs.Layout.{target_of_program, Fits}
+use Rattle.rv_select.specs.declared.lined.LinedInst.{LinedInst}
+use Rattle.rv_select.specs.Layout.{selected, target_of_program, Fits}
 use Rattle.rv_select.specs.Relation.{CarriesOut}
 
 -- the lines of a list of operations count from 1
@@ -38,6 +41,12 @@ Carries procs thread s c = CarriesOut (machine_for procs thread) (code_of procs)
 -- The parts of a program that has a main module keep the rules of images.
 abbrev pub ImageRules : Type 0
 ImageRules = (procs : List (List LinedOp)) → 1 ≤ length procs → Fits procs → KeepsRules (parts_of procs)
+
+-- Each word reads as the instruction that was selected, and has its line.
+abbrev pub WordsRead : Type 0
+WordsRead =
+    (procs : List (List LinedOp)) → IsProgram procs → (k : ℕ) (i : LinedInst) → slice_get (selected procs) k ≡ Some i
+    → (option_and_then inst_of (slice_get (parts_of procs).code k) ≡ Some i.inst) × (line_of (parts_of procs).lines k ≡ i.line)
 
 -- The main thread of the image begins as the program's.
 abbrev pub FirstStates : Type 0

@@ -1,8 +1,11 @@
-use Rattle.rv_select.proofs.Images.{image_rules, first_states, steps_kept, segments_kept}
+use Rattle.rv_select.proofs.Images.{image_rules, words_read, first_states, steps_kept, segments_kept}
 use Rattle.rv_select.proofs.laws.selection.Goals as goal
 
 pub returns-clause-image : goal.returns-clause-image
 returns-clause-image c = image_rules
+
+pub returns-clause-words : goal.returns-clause-words
+returns-clause-words c = words_read
 
 pub returns-clause-begins : goal.returns-clause-begins
 returns-clause-begins c = first_states
