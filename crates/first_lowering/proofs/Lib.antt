@@ -1,4 +1,5 @@
 pub mod Beginning
+pub mod Declares
 pub mod Emitted
 pub mod Simulation
 pub mod Sound

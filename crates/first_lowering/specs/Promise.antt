@@ -7,6 +7,7 @@ use Rattle.mid_code.specs.Flow.{AreLawful}
 use Rattle.mid_code.specs.Operations.{MidCode, code_of}
 use Rattle.mid_code.specs.Paths.{AllSound}
 use Rattle.mid_code.specs.Step.{MidState, mid_step, first_state}
+use Rattle.first_language.specs.Grammar.{IsProgram}
 use Rattle.first_language.specs.Tree.{Program}
 use Rattle.first_lowering.specs.Variables.{IsDeclared}
 use Rattle.first_lowering.specs.Meaning.{State, step, first_of}
@@ -36,3 +37,7 @@ LoweringIsLawful = (p : Program) → AreLawful 0 (main_ops p)
 -- exist
 abbrev pub LoweringIsSound : Type 0
 LoweringIsSound = (p : Program) → IsDeclared p → AllSound (lowered p)
+
+-- the variables of each program that a text has are declared before they are used
+abbrev pub ProgramsAreDeclared : Type 0
+ProgramsAreDeclared = (text : List ℕ) (p : Program) → IsProgram text p → IsDeclared p

@@ -1,4 +1,4 @@
-ghost use Rattle.first_lowering.specs.Promise.{LoweringKeeps, LoweringStarts, LoweringIsLawful, LoweringIsSound, SegmentsKept};
+ghost use Rattle.first_lowering.specs.Promise.{LoweringKeeps, LoweringStarts, LoweringIsLawful, LoweringIsSound, ProgramsAreDeclared, SegmentsKept};
 
 /// Middle code carries out the source: at states that are related, each step of the source is matched, and the first
 /// states are related. So a segment of the source is one of its middle code, with the same turns, accesses, calls and
@@ -9,5 +9,6 @@ pub fn lowering()
     ensures starts { LoweringStarts }
     ensures lawful { LoweringIsLawful }
     ensures sound { LoweringIsSound }
+    ensures declared { ProgramsAreDeclared }
     ensures segments { SegmentsKept }
 {}

@@ -7,7 +7,9 @@ use std::alloc::Global;
 use std::test::*;
 
 const FIRST: Reg = Reg::Temp { number: 0 };
+
 const SECOND: Reg = Reg::Temp { number: 1 };
+
 const A: Reg = Reg::Var { number: 0 };
 
 /// Lines `Dim a As Integer = 7`, `While a`, `a = a - 1`, `Wend`, `Print a \ 2`, the last of them ended.

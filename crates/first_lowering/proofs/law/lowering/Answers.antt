@@ -1,4 +1,5 @@
 use Rattle.first_lowering.proofs.Beginning.{lowering_starts, lowering_lawful, segments_kept}
+use Rattle.first_lowering.proofs.Declares.{programs_declared}
 use Rattle.first_lowering.proofs.Simulation.{lowering_keeps}
 use Rattle.first_lowering.proofs.Sound.{lowering_sound}
 use Rattle.first_lowering.proofs.law.lowering.Goals as goal
@@ -17,3 +18,6 @@ returns-clause-lawful c = lowering_lawful
 
 pub returns-clause-sound : goal.returns-clause-sound
 returns-clause-sound c = lowering_sound
+
+pub returns-clause-declared : goal.returns-clause-declared
+returns-clause-declared c = programs_declared
