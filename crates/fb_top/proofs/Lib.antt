@@ -1,4 +1,3 @@
-pub mod Declared
 pub mod Headline
 pub mod Lowered
 pub mod Source

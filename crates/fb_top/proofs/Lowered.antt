@@ -15,9 +15,9 @@ use Rattle.first_language.specs.Sound.{IsSoundStatement, IsSoundBlock}
 use Rattle.first_language.proofs.Sound.{each_is_sound}
 use Rattle.first_lowering.specs.Lowering.{expression, statement, block, main_block, last_op, main_ops, lowered}
 use Rattle.first_lowering.proofs.Beginning.{lowering_lawful}
+use Rattle.first_lowering.proofs.Declares.{programs_declared}
 use Rattle.first_lowering.proofs.Sound.{lowering_sound}
 use Rattle.rv_select.specs.Laws.{HaveLines, IsProgram as IsMidProgram}
-use Rattle.fb_top.proofs.Declared.{is_declared}
 
 -- the lines of structured code count from 1
 abbrev CodeHasLines : Code → Type 0
@@ -80,7 +80,7 @@ nothing_live p q i r (reads_now _ _ op is among) = cc
 nothing_live p q i r (reads_later _ j _ op is goes other later) = cc
 
 each_sound : (text : List ℕ) (p : Program) → IsProgram text p → (q : ℕ) → IsSound (code_of (lowered p)) q
-each_sound text p is zero = lowering_sound p (is_declared text p is)
+each_sound text p is zero = lowering_sound p (programs_declared text p is) zero (omega arith)
 each_sound text p is (suc q) = record { written = nothing_live p q 0; targets = λ i t op here target. absurd cc }
 
 -- Middle code of a text's program is a program of middle code.

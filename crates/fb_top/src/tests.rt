@@ -60,7 +60,11 @@ fn texts_print_what_they_say(rt: HostRuntime) -> Result<(), Fail> {
         (b"Print", b"", 65),
         (b"Print 1 2", b"", 65),
         (b"Print 1\nPrint (2)", b" 1\n 2\n", 0),
-        (b"Dim a As Integer = 7\nDim b As Integer\nPrint a + b", b" 7\n", 0),
+        (
+            b"Dim a As Integer = 7\nDim b As Integer\nPrint a + b",
+            b" 7\n",
+            0,
+        ),
         (b"Dim a As Integer = 2\na = a * a + 1\nPrint a", b" 5\n", 0),
         (
             b"Dim a As Integer = 5\nIf a Mod 2 Then\n  Print 1\nEnd If",
@@ -82,9 +86,17 @@ fn texts_print_what_they_say(rt: HostRuntime) -> Result<(), Fail> {
             b"-9223372036854775808\n 0\n",
             0,
         ),
-        (b"If 0 - 1 Then\nPrint 1\nEnd If\nIf 0 Then\nPrint 2\nEnd If", b" 1\n", 0),
+        (
+            b"If 0 - 1 Then\nPrint 1\nEnd If\nIf 0 Then\nPrint 2\nEnd If",
+            b" 1\n",
+            0,
+        ),
         (b"Print 7 Mod 0", b"", 80),
-        (b"Dim a As Integer\nPrint 1\nWhile 1 \\ a\nWend", b" 1\n", 80),
+        (
+            b"Dim a As Integer\nPrint 1\nWhile 1 \\ a\nWend",
+            b" 1\n",
+            80,
+        ),
         (b"Print a\nDim a As Integer", b"", 65),
         (b"Dim a As Integer = a", b"", 65),
         (b"Dim a As Integer\nDim A As Integer", b"", 65),
@@ -108,7 +120,14 @@ fn a_zero_divisor_traps_at_its_line(rt: HostRuntime) -> Result<(), Fail> {
     let text = b"Dim a As Integer = 7\nDim b As Integer\nPrint a \\ b";
     let report = command(rt.alloc(), &["run", "f"], text, &[])?;
     assert!(rt;
-        matches!(&report.ending, Ending::Trapped { kind: TrapKind::DivZero, line: 3, thread: 0 })
+        matches!(
+            &report.ending,
+            Ending::Trapped {
+                kind: TrapKind::DivZero,
+                line: 3,
+                thread: 0
+            }
+        )
     );
     assert_eq!(rt; report.status, 80);
     assert_eq!(rt; report.out.bytes(), b"".as_slice());
@@ -119,9 +138,7 @@ fn a_zero_divisor_traps_at_its_line(rt: HostRuntime) -> Result<(), Fail> {
 #[test]
 fn a_loop_without_end_spends_its_turns(rt: HostRuntime) -> Result<(), Fail> {
     let report = command(rt.alloc(), &["run", "f"], b"While 1\nWend", &[])?;
-    assert!(rt;
-        matches!(&report.ending, Ending::TurnsSpent { thread: 0, line: 2 })
-    );
+    assert!(rt; matches!(&report.ending, Ending::TurnsSpent { thread: 0, line: 2 }));
     assert_eq!(rt; report.status, 83);
     assert_eq!(rt; report.schedule.threads(), [0].as_slice());
     Ok(())
@@ -130,9 +147,7 @@ fn a_loop_without_end_spends_its_turns(rt: HostRuntime) -> Result<(), Fail> {
 #[test]
 fn a_run_has_its_limit_of_entries(rt: HostRuntime) -> Result<(), Fail> {
     let report = command(rt.alloc(), &["run", "f"], b"While 1\nPrint 1\nWend", &[])?;
-    assert!(rt;
-        matches!(&report.ending, Ending::EntriesSpent { limit: 1_000_000 })
-    );
+    assert!(rt; matches!(&report.ending, Ending::EntriesSpent { limit: 1_000_000 }));
     assert_eq!(rt; report.status, 84);
     assert_eq!(rt; report.schedule.threads().len(), 1_000_000);
     assert_eq!(rt; report.out.bytes().len(), 1_500_000);
