@@ -1,12 +1,3 @@
-pub mod Bytes
-pub mod Constants
-pub mod EachIsRead
-pub mod Emitted
-pub mod Performs
-pub mod Programs
-pub mod ReadIsOne
-pub mod Registers
-pub mod Runs
-pub mod Stack
-pub mod Steps
-pub mod Words
+pub mod Headline
+pub mod Lowered
+pub mod Source

@@ -1,5 +1,4 @@
-use Rattle.std.specs.Prelude.{◌≡◌, ℕ, ◌+◌, ◌<◌, ◌⊎◌, List, [], ◌∷◌, ◌++◌, length, take, replicate, Option, Bool, true, false, ⊤, codes}
-use Rattle.std.specs.Io.KnownBytes.{Appends}
+use Rattle.std.specs.Prelude.{◌≡◌, ℕ, ◌⊎◌, List, [], ◌∷◌, Option, Bool, true, false, ⊤, codes}
 use Rattle.fb_base.specs.declared.ending.Ending.{Ending}
 use Rattle.fb_base.specs.declared.ending.Ending.TheVariants as endings
 use Rattle.fb_base.specs.declared.ending.UsageWhy.TheVariants.{Words}
@@ -9,11 +8,11 @@ use Rattle.host_edge.specs.Faults.{Rose}
 use Rattle.host_edge.specs.Files.{FileMap}
 use Rattle.host_edge.specs.Loads.{IsLoaded}
 use Rattle.host_edge.specs.declared.store.Loaded.TheVariants.{Bytes, Absent, TooLong}
-use Rattle.fb_top.specs.Tree.{Tree}
-use Rattle.fb_top.specs.Grammar.{IsProgram}
-use Rattle.fb_top.specs.Printing.{entries_of}
+use Rattle.first_language.specs.Tree.{Program}
+use Rattle.first_language.specs.Grammar.{IsProgram}
+use Rattle.first_lowering.specs.Meaning.{step, first_of}
+use Rattle.main_run.specs.Solo.{SoloEndsAs}
 use Rattle.fb_top.specs.Compiling.{no_program}
-use Rattle.fb_top.specs.Entries.{bytes_of}
 
 -- What a command sees of the outside: the files, the output, and the counts of their faults.
 pub record Devices : Type 0 where
@@ -35,56 +34,39 @@ pub record NothingRun (old new : Option (List ℕ)) (schedule : List ℕ) : Type
   pub schedule_is : schedule ≡ []
   pub out_is : new ≡ old
 
--- The program of a text has run to its end: each of its entries stands in the schedule, and all their bytes were written.
-pub record IsDone (text schedule : List ℕ) (old new : Option (List ℕ)) : Type 0 where
-  pub trees : List Tree
-  pub program : IsProgram text trees
-  pub entries : schedule ≡ replicate (length (entries_of trees)) 0
-  pub written : Appends old new (bytes_of (entries_of trees))
+-- the most turns that a segment may take
+abbrev pub turn_limit : ℕ
+turn_limit = 10000000
 
--- The program of a text has run up to some entry: the entries before it stand in the schedule, and their bytes were
--- written.
-pub record IsUnderWay (text schedule : List ℕ) (old new : Option (List ℕ)) : Type 0 where
-  pub trees : List Tree
-  pub program : IsProgram text trees
-  pub before : List (List ℕ)
-  pub after : List (List ℕ)
-  pub split : entries_of trees ≡ before ++ after
-  pub entries : schedule ≡ replicate (length before) 0
-  pub written : Appends old new (bytes_of before)
+-- the most entries that a run may make
+abbrev pub entry_limit : ℕ
+entry_limit = 1000000
 
--- The program of a text was cut off in some entry, which is the last of the schedule: of its bytes some are missing.
-pub record IsCut (text schedule : List ℕ) (old new : Option (List ℕ)) : Type 0 where
-  pub trees : List Tree
-  pub program : IsProgram text trees
-  pub before : List (List ℕ)
-  pub last : List ℕ
-  pub after : List (List ℕ)
-  pub split : entries_of trees ≡ before ++ last ∷ after
-  pub entries : schedule ≡ replicate (length before + 1) 0
-  pub count : ℕ
-  pub missing : count < length last
-  pub written : Appends old new (bytes_of before ++ take count last)
+-- The text is a program of the language, and its statements, done one after another from its beginning, come to this
+-- ending with this schedule and output. No instruction occurs in this.
+pub record StatementsEndAs (text : List ℕ) (old new : Option (List ℕ)) (faults later : ℕ) (schedule : List ℕ) (ending : Ending) : Type 0 where
+  pub program : Program
+  pub is : IsProgram text program
+  pub ends : SoloEndsAs step turn_limit (first_of program) entry_limit old new faults later schedule ending
 
 -- The text is none of the language, and this is its fault.
 pub record IsRefused (text : List ℕ) (fault : Fault) : Type 0 where
   pub fault_is : fault ≡ no_program
-  pub none : (trees : List Tree) → IsProgram text trees → ⊥
+  pub none : (program : Program) → IsProgram text program → ⊥
 
 -- How a command that has a text to run ends: what becomes of the output, of its count of faults and of the schedule.
 abbrev pub TextEndsAs : List ℕ → Option (List ℕ) → Option (List ℕ) → ℕ → ℕ → List ℕ → Ending → Type 0
-TextEndsAs text old new faults later schedule (endings.Ended status) = (status ≡ 0) × IsDone text schedule old new
-TextEndsAs text old new faults later schedule (endings.Trapped kind line thread) = ⊥
-TextEndsAs text old new faults later schedule (endings.TurnsSpent thread line) = ⊥
-TextEndsAs text old new faults later schedule (endings.EntriesSpent limit) = ⊥
-TextEndsAs text old new faults later schedule (endings.WriteFault sinks.Out) = Rose faults later × IsCut text schedule old new
-TextEndsAs text old new faults later schedule (endings.WriteFault sinks.Err) = ⊥
+TextEndsAs text old new faults later schedule (endings.Ended status) = StatementsEndAs text old new faults later schedule (endings.Ended status)
+TextEndsAs text old new faults later schedule (endings.Trapped kind line thread) = StatementsEndAs text old new faults later schedule (endings.Trapped kind line thread)
+TextEndsAs text old new faults later schedule (endings.TurnsSpent thread line) = StatementsEndAs text old new faults later schedule (endings.TurnsSpent thread line)
+TextEndsAs text old new faults later schedule (endings.EntriesSpent limit) = StatementsEndAs text old new faults later schedule (endings.EntriesSpent limit)
+TextEndsAs text old new faults later schedule (endings.WriteFault sink) = StatementsEndAs text old new faults later schedule (endings.WriteFault sink)
+TextEndsAs text old new faults later schedule endings.NoMemory = NothingRun old new schedule ⊎ StatementsEndAs text old new faults later schedule endings.NoMemory
+TextEndsAs text old new faults later schedule (endings.Refused fault) = IsRefused text fault × NothingRun old new schedule
 TextEndsAs text old new faults later schedule (endings.Usage why) = ⊥
 TextEndsAs text old new faults later schedule (endings.NoFile name) = ⊥
 TextEndsAs text old new faults later schedule (endings.TooLong name) = ⊥
 TextEndsAs text old new faults later schedule endings.StoreFault = ⊥
-TextEndsAs text old new faults later schedule endings.NoMemory = NothingRun old new schedule ⊎ IsUnderWay text schedule old new
-TextEndsAs text old new faults later schedule (endings.Refused fault) = IsRefused text fault × NothingRun old new schedule
 
 -- The store has a text under the name, and the command ends as its text says.
 pub record RunEndsAs (old new : Devices) (name schedule : List ℕ) (ending : Ending) : Type 0 where
@@ -95,9 +77,9 @@ pub record RunEndsAs (old new : Devices) (name schedule : List ℕ) (ending : En
 -- How a command that asks to run a file ends.
 abbrev pub FileEndsAs : Devices → Devices → List ℕ → List ℕ → Ending → Type 0
 FileEndsAs old new name schedule (endings.Ended status) = RunEndsAs old new name schedule (endings.Ended status)
-FileEndsAs old new name schedule (endings.Trapped kind line thread) = ⊥
-FileEndsAs old new name schedule (endings.TurnsSpent thread line) = ⊥
-FileEndsAs old new name schedule (endings.EntriesSpent limit) = ⊥
+FileEndsAs old new name schedule (endings.Trapped kind line thread) = RunEndsAs old new name schedule (endings.Trapped kind line thread)
+FileEndsAs old new name schedule (endings.TurnsSpent thread line) = RunEndsAs old new name schedule (endings.TurnsSpent thread line)
+FileEndsAs old new name schedule (endings.EntriesSpent limit) = RunEndsAs old new name schedule (endings.EntriesSpent limit)
 FileEndsAs old new name schedule (endings.WriteFault sink) = RunEndsAs old new name schedule (endings.WriteFault sink)
 FileEndsAs old new name schedule (endings.Usage why) = ⊥
 FileEndsAs old new name schedule (endings.NoFile named) = (named ≡ name) × IsLoaded old.held name text_limit Absent × NothingRun old.out new.out schedule
@@ -116,9 +98,9 @@ pub record NamedEndsAs (words : List (List ℕ)) (old new : Devices) (schedule :
 -- words ask for, so that each answer comes exactly where its row says.
 abbrev pub EndsAs : List (List ℕ) → Devices → Devices → List ℕ → Ending → Type 0
 EndsAs words old new schedule (endings.Ended status) = NamedEndsAs words old new schedule (endings.Ended status)
-EndsAs words old new schedule (endings.Trapped kind line thread) = ⊥
-EndsAs words old new schedule (endings.TurnsSpent thread line) = ⊥
-EndsAs words old new schedule (endings.EntriesSpent limit) = ⊥
+EndsAs words old new schedule (endings.Trapped kind line thread) = NamedEndsAs words old new schedule (endings.Trapped kind line thread)
+EndsAs words old new schedule (endings.TurnsSpent thread line) = NamedEndsAs words old new schedule (endings.TurnsSpent thread line)
+EndsAs words old new schedule (endings.EntriesSpent limit) = NamedEndsAs words old new schedule (endings.EntriesSpent limit)
 EndsAs words old new schedule (endings.WriteFault sink) = NamedEndsAs words old new schedule (endings.WriteFault sink)
 EndsAs words old new schedule (endings.Usage Words) = ((name : List ℕ) → AskToRun words name → ⊥) × NothingRun old.out new.out schedule
 EndsAs words old new schedule (endings.NoFile name) = NamedEndsAs words old new schedule (endings.NoFile name)

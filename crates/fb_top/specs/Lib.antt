@@ -1,13 +1,2 @@
 pub mod Answers
-pub mod Code
 pub mod Compiling
-pub mod Emission
-pub mod Entries
-pub mod Grammar
-pub mod Printing
-pub mod Reading
-pub mod Running
-pub mod Stack
-pub mod Thread
-pub mod Tree
-pub mod Within

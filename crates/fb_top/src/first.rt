@@ -1,8 +1,3 @@
-//! The small language that fbrv runs so far: lines of Print over whole-number expressions.
+//! The small language that fbrv runs so far: Print, variables, If and While over whole numbers.
 
-mod byte;
-mod parse;
-mod tree;
-
-pub use parse::read_program;
-pub use tree::{Expr, Operator};
+pub use first_language::{Expr, Operator, Program, Stmt, read_program};

@@ -3,11 +3,10 @@
 
 mod compiler;
 pub mod first;
-mod run;
 #[cfg(test)]
 mod tests;
-mod thread;
 mod tool;
 
-pub use compiler::{Code, CompileErr, compile};
+pub use compiler::{CompileErr, compile};
+pub use main_run::{Solo, solo};
 pub use tool::{Report, tool_call};

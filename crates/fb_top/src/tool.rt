@@ -3,20 +3,26 @@ ghost use Rattle.host_edge.specs.Streams.{SameTelling};
 ghost use Rattle.fb_top.specs.Answers.{AskToRun, EndsAs, FileEndsAs, IsNamed, TextEndsAs, status_of};
 
 use crate::compiler::{CompileErr, compile};
-use crate::run::{Run, Stop, run_code};
-use fb_base::{Ending, Schedule, Text, UsageWhy, WhichSink};
+use fb_base::{Ending, Schedule, Text, UsageWhy};
 use host_edge::{LoadErr, Loaded, Sink, Source, Store};
+use main_run::{Solo, solo};
 use std::alloc::Global;
 
 /// The most bytes that a program's text may have.
 const TEXT_LIMIT: usize = 1_048_576;
+
+/// The most turns that a segment may take.
+const TURN_LIMIT: u64 = 10_000_000;
+
+/// The most entries that a run may make.
+const ENTRY_LIMIT: u32 = 1_000_000;
 
 /// What a command did, with everything that was handed in.
 #[derive(Drop)]
 pub struct Report<T, S, K, E> {
     /// The exit status: 0 where the program ended, 64 for faulty words, 65 for a text that is refused, 66 where there
     /// is no such file, 67 where it is too long, 70 and 73 for faults of the store and of the output, 71 for want of
-    /// memory.
+    /// memory, 80 for a trap, 83 and 84 where the turns of a segment or the entries of the run were spent.
     pub status: u8,
     /// How it ended.
     pub ending: Ending,
@@ -28,12 +34,6 @@ pub struct Report<T, S, K, E> {
     pub input: S,
     pub out: K,
     pub err: E,
-}
-
-/// How a command ended, and the schedule of its run.
-struct Outcome {
-    ending: Ending,
-    schedule: Schedule,
 }
 
 /// The exit status of an ending.
@@ -55,44 +55,31 @@ fn status(ending: &Ending) -> u8
     }
 }
 
-/// An ending without a run.
-fn without_run(alloc: Global, ending: Ending) -> Outcome
+/// A command that ended without a run.
+fn without_run<S: Drop, K: Drop>(alloc: Global, ending: Ending, input: S, out: K) -> Solo<S, K>
     ensures ending { result.ending ≡ ending }
     ensures schedule { result.schedule.items ≡ [] }
+    ensures input { result.input ≡ input }
+    ensures out { result.out ≡ out }
 {
-    Outcome {
+    Solo {
         ending,
         schedule: Schedule::new(alloc),
+        input,
+        out,
     }
 }
 
 /// Compiles a text and runs it.
-fn run_text<K: Sink>(alloc: Global, text: &[u8], out: &mut K) -> Outcome
-    ensures ends { TextEndsAs text.now (K.written out.old) (K.written out.new) (K.faults out.old) (K.faults out.new) result.schedule.items result.ending }
-    ensures told { SameTelling (K.written out.old) (K.written out.new) }
+fn run_text<S: Source, K: Sink>(alloc: Global, text: &[u8], input: S, out: K) -> Solo<S, K>
+    ensures ends { TextEndsAs text.now (K.written out) (K.written result.out) (K.faults out) (K.faults result.out) result.schedule.items result.ending }
+    ensures input { result.input ≡ input }
+    ensures told { SameTelling (K.written out) (K.written result.out) }
 {
-    let code = match compile(alloc, text) {
-        Err(CompileErr::NoMemory) => return without_run(alloc, Ending::NoMemory),
-        Err(CompileErr::Fault(fault)) => return without_run(alloc, Ending::Refused { fault }),
-        Ok(code) => code,
-    };
-    let Run { stop, schedule } = run_code(alloc, &code, out);
-    match stop {
-        Stop::Ended => Outcome {
-            ending: Ending::Ended { status: 0 },
-            schedule,
-        },
-        Stop::Cut => Outcome {
-            ending: Ending::WriteFault {
-                sink: WhichSink::Out,
-            },
-            schedule,
-        },
-        Stop::NoMemory => Outcome {
-            ending: Ending::NoMemory,
-            schedule,
-        },
-        Stop::Strayed => unreachable!(),
+    match compile(alloc, text) {
+        Err(CompileErr::NoMemory) => without_run(alloc, Ending::NoMemory, input, out),
+        Err(CompileErr::Fault(fault)) => without_run(alloc, Ending::Refused { fault }, input, out),
+        Ok(image) => solo(alloc, image, input, out, TURN_LIMIT, ENTRY_LIMIT),
     }
 }
 
@@ -124,20 +111,27 @@ fn named(alloc: Global, name: &str, too_long: bool) -> Ending
 }
 
 /// Runs the text of a file.
-fn run_file<T: Store, K: Sink>(alloc: Global, name: &str, store: &mut T, out: &mut K) -> Outcome
+fn run_file<T: Store, S: Source, K: Sink>(
+    alloc: Global,
+    name: &str,
+    store: &mut T,
+    input: S,
+    out: K,
+) -> Solo<S, K>
     ensures ends { FileEndsAs
-        (record { held = T.held store.old; store_faults = T.faults store.old; out = K.written out.old; out_faults = K.faults out.old })
-        (record { held = T.held store.new; store_faults = T.faults store.new; out = K.written out.new; out_faults = K.faults out.new })
+        (record { held = T.held store.old; store_faults = T.faults store.old; out = K.written out; out_faults = K.faults out })
+        (record { held = T.held store.new; store_faults = T.faults store.new; out = K.written result.out; out_faults = K.faults result.out })
         name.now result.schedule.items result.ending }
     ensures held { T.held store.new ≡ T.held store.old }
-    ensures told { SameTelling (K.written out.old) (K.written out.new) }
+    ensures input { result.input ≡ input }
+    ensures told { SameTelling (K.written out) (K.written result.out) }
 {
     match store.load(name, TEXT_LIMIT) {
-        Err(LoadErr::Failed) => without_run(alloc, Ending::StoreFault),
-        Err(LoadErr::NoMemory) => without_run(alloc, Ending::NoMemory),
-        Ok(Loaded::Absent) => without_run(alloc, named(alloc, name, false)),
-        Ok(Loaded::TooLong) => without_run(alloc, named(alloc, name, true)),
-        Ok(Loaded::Bytes(text)) => run_text(alloc, text.bytes(), out),
+        Err(LoadErr::Failed) => without_run(alloc, Ending::StoreFault, input, out),
+        Err(LoadErr::NoMemory) => without_run(alloc, Ending::NoMemory, input, out),
+        Ok(Loaded::Absent) => without_run(alloc, named(alloc, name, false), input, out),
+        Ok(Loaded::TooLong) => without_run(alloc, named(alloc, name, true), input, out),
+        Ok(Loaded::Bytes(text)) => run_text(alloc, text.bytes(), input, out),
     }
 }
 
@@ -168,15 +162,21 @@ pub fn tool_call<T: Store, S: Source, K: Sink, E: Sink>(
     ensures told { SameTelling (K.written out) (K.written result.out) }
 {
     let mut store = store;
-    let mut out = out;
-    let Outcome { ending, schedule } = match asked_file(words) {
+    let Solo {
+        ending,
+        schedule,
+        input,
+        out,
+    } = match asked_file(words) {
         None => without_run(
             alloc,
             Ending::Usage {
                 why: UsageWhy::Words,
             },
+            input,
+            out,
         ),
-        Some(name) => run_file(alloc, name, &mut store, &mut out),
+        Some(name) => run_file(alloc, name, &mut store, input, out),
     };
     let status = status(&ending);
     Report {

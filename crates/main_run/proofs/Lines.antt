@@ -1,5 +1,5 @@
 -- Addresses behind all code have the last line.
-use Rattle.std.proofs.Common.{◌≡◌, ℕ, ◌<◌, ◌≤◌, true, nat_le, List, [], ◌∷◌, refl, arith}
+use Rattle.std.proofs.Common.{◌≡◌, ℕ, ◌≤◌, List, [], ◌∷◌, refl, arith}
 use Rattle.std.proofs.lemmas.Bool.{le-leb}
 use Rattle.fb_base.specs.declared.shape.LineAt.{LineAt}
 use Rattle.fb_image.specs.Format.{AllAlong, IsLine, after_line}

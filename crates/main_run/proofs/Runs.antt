@@ -1,5 +1,5 @@
 -- Entry by entry: what was made so far, and what a run comes to.
-use Rattle.std.proofs.Common.{◌≡◌, ℕ, zero, suc, ◌+◌, ◌<◌, ◌≤◌, List, [], ◌∷◌, ◌++◌, length, take, replicate, Option, Some, None, refl, ap, sym, ◌∙◌, subst, arith}
+use Rattle.std.proofs.Common.{◌≡◌, ℕ, zero, suc, ◌+◌, ◌<◌, ◌≤◌, List, [], ◌∷◌, ◌++◌, take, replicate, Option, Some, refl, ap, sym, ◌∙◌, subst, arith}
 use Rattle.std.specs.Io.KnownBytes.{Appends}
 use Rattle.std.proofs.KnownBytes.{Appends-trans, Appends-nil}
 use Rattle.fb_base.specs.declared.ending.Ending.{Ending}
@@ -7,10 +7,10 @@ use Rattle.fb_base.specs.declared.ending.Ending.TheVariants as endings
 use Rattle.fb_base.specs.declared.ending.WhichSink.TheVariants as sinks
 use Rattle.host_edge.specs.Faults.{Rose}
 use Rattle.thread_system.specs.Effect.{Effect}
-use Rattle.thread_system.specs.Replay.{Finish, Standing, Going, Over, Ended, Stopped, OutOfTurns, Entry, Replays, begins, one_more}
+use Rattle.thread_system.specs.Replay.{Finish, Standing, Going, Over, Ended, Stopped, OutOfTurns, begins, one_more}
 use Rattle.rv_step.specs.Step.{trap_number}
 use Rattle.main_run.specs.Entries.{IsMade, WasCut, EntryEndsAs}
-use Rattle.main_run.specs.Solo.{HasMade, IsOver, GoesOn, IsUnderWay, IsCut, SoloEndsAs}
+use Rattle.main_run.specs.Solo.{HasMade, IsOver, IsCut, SoloEndsAs}
 
 -- nothing was written
 pub none_written : (old new : Option (List ℕ)) → new ≡ old → Appends old new []

@@ -1,20 +1,20 @@
 -- One step of the code is one step of a segment.
-use Rattle.std.proofs.Common.{◌≡◌, ℕ, zero, suc, ◌+◌, ◌-◌, ◌*◌, ◌/◌, ◌%◌, ◌<◌, ◌≤◌, Bool, true, false, ◌==◌, if◌then◌else◌, List, ◌∷◌, [], length, get_or, slice_get, Option, Some, None, IsSome, option_and_then, Result, Ok, Err, refl, sym, ap, ◌∙◌, subst, arith}
+use Rattle.std.proofs.Common.{◌≡◌, ℕ, suc, ◌+◌, ◌-◌, ◌*◌, ◌/◌, ◌%◌, ◌<◌, ◌≤◌, Bool, true, false, ◌==◌, if◌then◌else◌, List, length, get_or, slice_get, Option, Some, None, IsSome, option_and_then, Result, Ok, refl, sym, ap, ◌∙◌, subst, arith}
 use Rattle.std.proofs.Math.Nat.{suc-mul}
 use Rattle.std.proofs.lemmas.Bool.{eqb-true, false≢true}
 use Rattle.std.proofs.lemmas.Option.{slice_get_within}
 use Rattle.thread_system.specs.Effect.{Effect, Silent, Reads, Writes, Turn, Calls, Traps}
-use Rattle.thread_system.specs.Segment.{bad_pointer, End, Calling, Trapped, Spent, Segment, goes_on, reads, reads_badly, writes, writes_badly, takes_turn, lacks_turn, calls, traps}
+use Rattle.thread_system.specs.Segment.{End, Trapped, Spent, Segment, goes_on, reads, reads_badly, writes, writes_badly, takes_turn, lacks_turn, calls, traps}
 use Rattle.thread_system.specs.Replay.{nothing}
 use Rattle.rv_isa.specs.Encoding.{inst_of}
 use Rattle.rv_isa.specs.declared.inst.Inst.{Inst}
 use Rattle.rv_isa.specs.Machine.{Machine, Cpu, line_at, is_trap_call, fetched, acts, machine_step}
-use Rattle.rv_isa.proofs.Ahead.{StepsFrom, steps_from}
+use Rattle.rv_isa.proofs.Lines.{StepsFrom, steps_from}
 use Rattle.fb_base.specs.declared.fault.TrapKind.{TrapKind}
 use Rattle.fb_base.specs.declared.memory.NoMemory.{NoMemory}
 use Rattle.fb_image.specs.declared.image.ImageParts.{ImageParts}
 use Rattle.rv_step.specs.State.{machine_of}
-use Rattle.rv_step.specs.Step.{StepsTo, IsCall, IsTrapCall, answered, trap_number}
+use Rattle.rv_step.specs.Step.{StepsTo, IsCall, answered, trap_number}
 use Rattle.rv_step.specs.declared.stop.Stop.{Stop}
 use Rattle.rv_step.specs.declared.stop.Stop.TheVariants as stops
 use Rattle.main_run.specs.Entries.{args_of, call_end}

@@ -1,5 +1,5 @@
 -- What the parts of one entry of the main thread do.
-use Rattle.std.specs.Prelude.{◌≡◌, ℕ, List, [], ◌∷◌, ◌++◌, length, if◌then◌else◌, Option, Some, None}
+use Rattle.std.specs.Prelude.{◌≡◌, ℕ, List, [], ◌∷◌, ◌++◌, if◌then◌else◌, Option, Some, None}
 use Rattle.std.specs.Io.KnownBytes.{Appends}
 use Rattle.fb_base.specs.declared.ending.Ending.{Ending}
 use Rattle.fb_base.specs.declared.ending.Ending.TheVariants as endings

@@ -147,6 +147,8 @@ fn main(rt: HostRuntime) -> io::Result<()> {
     }
     let millions = (turns * BODY * 1000) / least.max(1);
     let picoseconds = least.saturating_mul(1000) / turns;
-    println!(rt; "{bytes} bytes; {millions} million instructions a second, {picoseconds} picoseconds a turn")?;
+    println!(rt;
+        "{bytes} bytes; {millions} million instructions a second, {picoseconds} picoseconds a turn"
+    )?;
     Ok(())
 }

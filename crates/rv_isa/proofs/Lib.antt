@@ -1,4 +1,5 @@
 pub mod Again
 pub mod Ahead
 pub mod Fields
+pub mod Lines
 pub mod Spelt

@@ -1,3 +1,4 @@
 pub mod Encoding
 pub mod Machine
+pub mod Progress
 pub mod Words

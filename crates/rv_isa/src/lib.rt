@@ -11,6 +11,6 @@ mod writing;
 
 pub use field::{Branch, Imm, Jump, Reg, Shift, Upper, WordShift};
 pub use inst::Inst;
-pub use law::inverse;
+pub use law::{inverse, progress};
 pub use reading::decode;
 pub use writing::encode;

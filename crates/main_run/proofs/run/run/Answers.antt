@@ -1,4 +1,4 @@
-use Rattle.std.proofs.Common.{◌≡◌, ◌+◌, ◌-◌, ◌≤◌, ◌<◌, suc, Some, None, refl, ap, sym, ◌∙◌, subst, arith}
+use Rattle.std.proofs.Common.{◌≡◌, ◌+◌, suc, Some, None, refl, sym, ◌∙◌, subst, arith}
 use Rattle.thread_system.specs.Replay.{Going}
 use Rattle.rv_isa.specs.Machine.{machine_step}
 use Rattle.rv_step.specs.State.{cpu_of, machine_of}

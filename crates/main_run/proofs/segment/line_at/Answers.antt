@@ -1,4 +1,4 @@
-use Rattle.std.proofs.Common.{◌≡◌, ℕ, ◌≤◌, ◌/◌, ◌^◌, ◌-◌, length, ◌∙◌, sym, arith}
+use Rattle.std.proofs.Common.{◌≤◌, ◌/◌, ◌^◌, ◌-◌, length, ◌∙◌, sym, arith}
 use Rattle.main_run.proofs.Lines.{last_lines}
 use Rattle.main_run.proofs.segment.line_at.Goals as goal
 

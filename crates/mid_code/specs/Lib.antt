@@ -1,0 +1,5 @@
+pub mod Flow
+pub mod Operations
+pub mod Paths
+pub mod Registers
+pub mod Step

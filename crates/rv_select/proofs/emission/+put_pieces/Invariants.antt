@@ -1,0 +1,4 @@
+use Rattle.rv_select.proofs.emission.+put_pieces.Given as goal
+
+abbrev pub decreases-put_pieces : goal.decreases-put_pieces
+decreases-put_pieces l = l.pieces

@@ -1,0 +1,15 @@
+//! Selection: from middle code to the instructions of RV64IM, and to an image of them.
+#![tactic(auto)]
+
+mod emission;
+mod laws;
+mod layout;
+mod lined;
+mod program;
+mod slots;
+mod starts;
+#[cfg(test)]
+mod tests;
+
+pub use laws::selection;
+pub use program::select;

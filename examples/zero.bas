@@ -1,0 +1,4 @@
+Dim a As Integer = 7
+Dim b As Integer
+Print a + b
+Print a \ b
