@@ -5,9 +5,9 @@ use Rattle.std.proofs.lemmas.Bool.{false≢true, cases_eq}
 use Rattle.std.proofs.lemmas.Option.{cond_some}
 use Rattle.thread_system.specs.Memory.{Memory, next_address, read, write, with_byte}
 use Rattle.places.specs.declared.kinds.Cell.{Cell}
-use Rattle.places.specs.Place.{Place, Head, byte_in, cell_in, is_live_in, cell_number, with_byte_in, with_closed_in}
+use Rattle.places.specs.Place.{Place, Head, byte_in, cell_in, is_live_in, cell_number, with_byte_in, with_closed_in, with_cell_in}
 use Rattle.places.specs.Memory.{Places, place_at, place_of, with_place, number_of, offset_of, byte_at, cell_at, is_live, head_at, tells, each_byte}
-use Rattle.places.specs.Calls.{replaced, with_change, puts, written, closes, closed, may_close}
+use Rattle.places.specs.Calls.{replaced, with_change, puts, written, closes, closed, may_close, with_cell}
 use Rattle.places.proofs.Bytes.{is_some_read}
 use Rattle.places.proofs.Changed.{given, with_same, with_other}
 
@@ -157,3 +157,40 @@ write_bytes (suc w) a v m allowed =
     ap (option_and_then (λ b. option_map (λ r. with_byte r a (v % 256)) (write (byte_at m) (next_address a) w (v / 256)))) first.1
     ∙ ap (option_map (λ r. with_byte r a (v % 256))) (write_bytes w (next_address a) (v / 256) m rest)
     ∙ ap {B = Option Memory} (λ f. Some f) (sym (λ i q. each q i))
+
+-- A place in place of another one leaves what can't tell them apart.
+same_with : {A : Type 0} (view : Option Place → A) (m : Places) (n : ℕ) (p y : Place) → place_at m n ≡ Some p → view (Some y) ≡ view (Some p) → (k : ℕ) → view (place_at (with_place n (Some y) m) k) ≡ view (place_at m k)
+same_with view m n p y is same k = by_number (cases_eq k n) where
+  by_number : (k ≡ n) ⊎ (k ≢ n) → view (place_at (with_place n (Some y) m) k) ≡ view (place_at m k)
+  by_number (inl e) =
+      let g = given m n p is in
+      ap (λ i. view (place_at (with_place n (Some y) m) i)) e ∙ ap view (with_same m n (Some y) g.0 g.1) ∙ same ∙ ap view (sym is) ∙ ap (λ i. view (place_at m i)) (sym e)
+  by_number (inr e) = ap view (with_other m n k (Some y) (given m n p is).0 e)
+
+set_cell_keeps : {A : Type 0} (view : Option Place → A) → ((p : Place) (cells : List Cell) → view (Some (record p { cells = cells })) ≡ view (Some p)) → (m after : Places) (a : ℕ) (cell : Cell) → with_cell a cell m ≡ Some after → (k : ℕ) → view (place_at after k) ≡ view (place_at m k)
+set_cell_keeps view same m after a cell e k = by_place (place_of m a) refl e where
+  none_is : ◌≡◌ {A = Option Places} None (Some after) → ⊥
+  none_is s = cc
+
+  by_number : (p : Place) → place_of m a ≡ Some p → (i : Option ℕ) → option_map (λ y. with_place (number_of a) (Some y) m) (option_map (λ j. record p { cells = set p.cells j cell }) i) ≡ Some after → view (place_at after k) ≡ view (place_at m k)
+  by_number p is None s = absurd (none_is s)
+  by_number p is (Some j) s =
+      let new : with_place (number_of a) (Some (record p { cells = set p.cells j cell })) m ≡ after = cc in
+      ap (λ x. view (place_at x k)) (sym new) ∙ same_with view m (number_of a) p (record p { cells = set p.cells j cell }) is (same p (set p.cells j cell)) k
+
+  by_test : (p : Place) → place_of m a ≡ Some p → (b : Bool) → cond b (option_map (λ y. with_place (number_of a) (Some y) m) (with_cell_in (offset_of a) cell p)) None ≡ Some after → view (place_at after k) ≡ view (place_at m k)
+  by_test p is true s = by_number p is (cell_number p.head (offset_of a)) s
+  by_test p is false s = absurd (none_is s)
+
+  by_place : (x : Option Place) → place_of m a ≡ x → option_and_then (λ p. cond (is_some (cell_in p (offset_of a))) (option_map (λ y. with_place (number_of a) (Some y) m) (with_cell_in (offset_of a) cell p)) None) x ≡ Some after → view (place_at after k) ≡ view (place_at m k)
+  by_place None is s = absurd (none_is s)
+  by_place (Some p) is s = by_test p is (is_some (cell_in p (offset_of a))) s
+
+pub set_cell_keeps_bytes : (m after : Places) (a q : ℕ) (cell : Cell) → with_cell a cell m ≡ Some after → byte_at after q ≡ byte_at m q
+set_cell_keeps_bytes m after a q cell e = set_cell_keeps (option_and_then (λ p. byte_in p (offset_of q))) (λ p cells. refl) m after a cell e (number_of q)
+
+pub set_cell_keeps_live : (m after : Places) (a q : ℕ) (cell : Cell) → with_cell a cell m ≡ Some after → is_live after q ≡ is_live m q
+set_cell_keeps_live m after a q cell e = set_cell_keeps (tells is_live_in (offset_of q)) (λ p cells. refl) m after a cell e (number_of q)
+
+pub set_cell_keeps_heads : (m after : Places) (a n : ℕ) (cell : Cell) → with_cell a cell m ≡ Some after → head_at after n ≡ head_at m n
+set_cell_keeps_heads m after a n cell e = set_cell_keeps (option_map (λ p. p.head)) (λ p cells. refl) m after a cell e n
