@@ -1,15 +1,21 @@
-use Rattle.std.proofs.Common.{◌≡◌, ◌≢◌, ℕ, zero, suc, ◌+◌, ◌-◌, ◌*◌, ◌/◌, ◌%◌, ◌^◌, ◌<◌, ◌≤◌, Bool, true, false, cond, ◌&&◌, ◌⊎◌, List, [], ◌∷◌, length, set, Option, Some, None, is_some, is_none, eqb, refl, ap, sym, ◌∙◌, arith, inl, inr, ne_eqb, eq-eqb}
+use Rattle.std.proofs.Common.{◌≡◌, ◌≢◌, ℕ, zero, suc, ◌+◌, ◌-◌, ◌*◌, ◌/◌, ◌%◌, ◌^◌, ◌<◌, ◌≤◌, Bool, true, false, cond, ◌&&◌, ◌⊎◌, List, [], ◌∷◌, ◌++◌, length, get_or, set, nat_lt, length-set, length-append, Option, Some, None, is_some, is_none, eqb, refl, ap, sym, ◌∙◌, arith, inl, inr, ne_eqb, eq-eqb}
 use Rattle.std.specs.List.{slice_get}
 use Rattle.std.specs.Option.{option_map, option_and_then}
-use Rattle.std.proofs.lemmas.Bool.{false≢true, cases_eq}
-use Rattle.std.proofs.lemmas.Option.{cond_some}
+use Rattle.std.proofs.lemmas.Bool.{false≢true, cases_eq, cases_lt}
+use Rattle.std.proofs.lemmas.Option.{cond_some, some_pair_parts}
+use Rattle.std.proofs.lemmas.List.{get_or_past}
+use Rattle.std.proofs.Math.ListN.{get_or-append}
+use Rattle.std.proofs.Math.Seq.{get_or-append_seam}
+use Rattle.fb_base.specs.declared.shape.Shape.{Shape}
+use Rattle.places.specs.declared.kinds.Form.{Form}
+use Rattle.places.proofs.Done.{started}
 use Rattle.thread_system.specs.Memory.{Memory, next_address, read, write, with_byte}
 use Rattle.places.specs.declared.kinds.Cell.{Cell}
-use Rattle.places.specs.Place.{Place, Head, byte_in, cell_in, is_live_in, cell_number, with_byte_in, with_closed_in, with_cell_in}
-use Rattle.places.specs.Memory.{Places, place_at, place_of, with_place, number_of, offset_of, byte_at, cell_at, is_live, head_at, tells, each_byte}
-use Rattle.places.specs.Calls.{replaced, with_change, puts, written, closes, closed, may_close, with_cell}
+use Rattle.places.specs.Place.{Place, Head, byte_in, cell_in, is_live_in, cell_number, with_byte_in, with_closed_in, with_cell_in, fresh}
+use Rattle.places.specs.Memory.{Places, place_at, place_of, with_place, number_of, offset_of, byte_at, cell_at, is_live, head_at, tells, each_byte, starts_at, next_number, address, live_size}
+use Rattle.places.specs.Calls.{replaced, with_change, puts, written, closes, closed, may_close, with_cell, freed_if, made, new_head, most_live}
 use Rattle.places.proofs.Bytes.{is_some_read}
-use Rattle.places.proofs.Changed.{given, with_same, with_other}
+use Rattle.places.proofs.Changed.{given, with_same, with_other, at_some, at_zero}
 
 -- What calls make of the bytes and cells at addresses.
 
@@ -194,3 +200,78 @@ set_cell_keeps_live m after a q cell e = set_cell_keeps (tells is_live_in (offse
 
 pub set_cell_keeps_heads : (m after : Places) (a n : ℕ) (cell : Cell) → with_cell a cell m ≡ Some after → head_at after n ≡ head_at m n
 set_cell_keeps_heads m after a n cell e = set_cell_keeps (option_map (λ p. p.head)) (λ p cells. refl) m after a cell e n
+
+-- A place that is freed is gone, and all others stay.
+freed_is : (test : Head → Bool) (m after : Places) (a : ℕ) → freed_if test a m ≡ Some after → (0 < number_of a) × (number_of a ≤ length m) × (with_place (number_of a) None m ≡ after)
+freed_is test m after a e = by_place (starts_at m a) refl e where
+  none_is : ◌≡◌ {A = Option Places} None (Some after) → ⊥
+  none_is s = cc
+
+  by_test : (p : Place) → starts_at m a ≡ Some p → (b : Bool) → cond b (Some (with_place (number_of a) None m)) None ≡ Some after → (0 < number_of a) × (number_of a ≤ length m) × (with_place (number_of a) None m ≡ after)
+  by_test p is true s =
+      let g = given m (number_of a) p (started m a p is) in
+      let same : with_place (number_of a) None m ≡ after = cc in
+      (g.0, g.1, same)
+  by_test p is false s = absurd (none_is s)
+
+  by_place : (x : Option Place) → starts_at m a ≡ x → option_and_then (λ p. cond (test p.head) (Some (with_place (number_of a) None m)) None) x ≡ Some after → (0 < number_of a) × (number_of a ≤ length m) × (with_place (number_of a) None m ≡ after)
+  by_place None is s = absurd (none_is s)
+  by_place (Some p) is s = by_test p is (test p.head) s
+
+pub freed_gone : (test : Head → Bool) (m after : Places) (a : ℕ) → freed_if test a m ≡ Some after → place_at after (number_of a) ≡ None
+freed_gone test m after a e =
+    let f = freed_is test m after a e in
+    ap (λ x. place_at x (number_of a)) (sym f.2) ∙ with_same m (number_of a) None f.0 f.1
+
+pub freed_others : (test : Head → Bool) (m after : Places) (a k : ℕ) → freed_if test a m ≡ Some after → k ≢ number_of a → place_at after k ≡ place_at m k
+freed_others test m after a k e other =
+    let f = freed_is test m after a e in
+    ap (λ x. place_at x k) (sym f.2) ∙ with_other m (number_of a) k None f.0 other
+
+pub freed_next : (test : Head → Bool) (m after : Places) (a : ℕ) → freed_if test a m ≡ Some after → next_number after ≡ next_number m
+freed_next test m after a e =
+    let f = freed_is test m after a e in
+    ap (λ x. next_number x) (sym f.2) ∙ ap (λ n. n + 1) (length-set m (number_of a - 1) None)
+
+-- A new place stands under a number that nothing had, and all others stay.
+made_is : (shape : Shape) (count addr : ℕ) (form : Form) (m after : Places) → made shape count form m ≡ Some (addr, after) → (address (next_number m) 0 ≡ addr) × (m ++ Some (fresh (new_head shape count form)) ∷ [] ≡ after)
+made_is shape count addr form m after e = by_test (nat_lt most_live (live_size m + shape.size * count)) e where
+  by_test : (b : Bool) → cond {A = Option (ℕ × Places)} b None (Some (address (next_number m) 0, m ++ Some (fresh (new_head shape count form)) ∷ [])) ≡ Some (addr, after) → (address (next_number m) 0 ≡ addr) × (m ++ Some (fresh (new_head shape count form)) ∷ [] ≡ after)
+  by_test true s = cc
+  by_test false s = some_pair_parts (address (next_number m) 0) addr (m ++ Some (fresh (new_head shape count form)) ∷ []) after s
+
+pub made_address : (shape : Shape) (count addr : ℕ) (form : Form) (m after : Places) → made shape count form m ≡ Some (addr, after) → addr ≡ address (next_number m) 0
+made_address shape count addr form m after e = sym (made_is shape count addr form m after e).0
+
+pub made_place : (shape : Shape) (count addr : ℕ) (form : Form) (m after : Places) → made shape count form m ≡ Some (addr, after) → place_at after (next_number m) ≡ Some (fresh (new_head shape count form))
+made_place shape count addr form m after e =
+    let f = made_is shape count addr form m after e in
+    let n : next_number m - 1 ≡ length m = omega arith in
+    ap (λ x. place_at x (next_number m)) (sym f.1)
+    ∙ at_some (m ++ Some (fresh (new_head shape count form)) ∷ []) (next_number m) (omega arith)
+    ∙ ap (λ i. get_or (m ++ Some (fresh (new_head shape count form)) ∷ []) i None) n
+    ∙ get_or-append_seam m (Some (fresh (new_head shape count form))) [] None
+
+push_others : (m : Places) (x : Option Place) (k : ℕ) → k ≢ next_number m → place_at (m ++ x ∷ []) k ≡ place_at m k
+push_others m x k other = by_zero (cases_lt 0 k) where
+  long : length (m ++ x ∷ []) ≡ length m + 1
+  long = length-append m (x ∷ [])
+
+  by_length : 0 < k → (k - 1 < length m) ⊎ (length m ≤ k - 1) → place_at (m ++ x ∷ []) k ≡ place_at m k
+  by_length some (inl h) = at_some (m ++ x ∷ []) k some ∙ get_or-append m (x ∷ []) None (k - 1) h ∙ sym (at_some m k some)
+  by_length some (inr h) =
+      let ne : k ≢ length m + 1 = other in
+      at_some (m ++ x ∷ []) k some ∙ get_or_past (m ++ x ∷ []) (k - 1) None (omega (arith, long)) ∙ sym (at_some m k some ∙ get_or_past m (k - 1) None h)
+
+  by_zero : (0 < k) ⊎ (k ≤ 0) → place_at (m ++ x ∷ []) k ≡ place_at m k
+  by_zero (inl h) = by_length h (cases_lt (k - 1) (length m))
+  by_zero (inr h) = at_zero (m ++ x ∷ []) k (omega arith) ∙ sym (at_zero m k (omega arith))
+
+pub made_others : (shape : Shape) (count addr k : ℕ) (form : Form) (m after : Places) → made shape count form m ≡ Some (addr, after) → k ≢ next_number m → place_at after k ≡ place_at m k
+made_others shape count addr k form m after e other = ap (λ x. place_at x k) (sym (made_is shape count addr form m after e).1) ∙ push_others m (Some (fresh (new_head shape count form))) k other
+
+pub made_next : (shape : Shape) (count addr : ℕ) (form : Form) (m after : Places) → made shape count form m ≡ Some (addr, after) → next_number after ≡ next_number m + 1
+made_next shape count addr form m after e = ap (λ x. next_number x) (sym (made_is shape count addr form m after e).1) ∙ ap (λ n. n + 1) (length-append m (Some (fresh (new_head shape count form)) ∷ []))
+
+pub unused : (m : Places) (n : ℕ) → next_number m ≤ n → place_at m n ≡ None
+unused m n h = at_some m n (omega arith) ∙ get_or_past m (n - 1) None (omega arith)
