@@ -1,4 +1,4 @@
-use Rattle.std.proofs.Common.{◌≡◌, ℕ, zero, suc, ◌+◌, ◌-◌, ◌*◌, ◌/◌, ◌%◌, ◌^◌, ◌<◌, ◌≤◌, Bool, true, false, not, cond, ◌&&◌, ◌⊎◌, List, [], ◌∷◌, length, get_or, Option, Some, None, is_some, is_none, refl, ap, sym, ◌∙◌, arith, inl, inr, ltb, leb}
+use Rattle.std.proofs.Common.{◌≡◌, ℕ, suc, ◌+◌, ◌-◌, ◌*◌, ◌/◌, ◌%◌, ◌^◌, ◌<◌, ◌≤◌, Bool, true, false, not, cond, ◌&&◌, ◌⊎◌, List, [], ◌∷◌, length, get_or, Option, Some, None, is_some, is_none, refl, ap, sym, ◌∙◌, arith, inl, inr, ltb, leb}
 use Rattle.std.specs.List.{slice_get, position_or_len}
 use Rattle.std.specs.Option.{option_map, option_and_then}
 use Rattle.std.proofs.Math.Nat.{mul-le-mul_left, mul-le-mul_right, suc-mul, mul_comm, div-lt_iff_lt-mul}
@@ -6,7 +6,7 @@ use Rattle.std.proofs.lemmas.Bool.{false≢true, cases_lt, ltb-true, le-ltb, lt-
 use Rattle.std.proofs.lemmas.Option.{cond_some, slice_get-get_or, slice_get_past}
 use Rattle.fb_base.specs.Shapes.{AllAlong, IsCell, after_cell, AreCells}
 use Rattle.places.specs.declared.kinds.Cell.{Cell}
-use Rattle.places.specs.Place.{Place, Head, size_of, cell_over, cell_number, cell_with, begins_cell, cell_in, is_alive, is_live_in, byte_in, may_close_in, number_in}
+use Rattle.places.specs.Place.{Place, size_of, cell_over, cell_number, cell_with, begins_cell, cell_in, is_alive, is_live_in, byte_in, may_close_in, number_in}
 use Rattle.places.specs.Calls.{most_live}
 use Rattle.places.specs.Standing.{IsPlace}
 use Rattle.places.specs.Answers.{IsWidth}

@@ -1,26 +1,26 @@
-use Rattle.std.proofs.Common.{◌≡◌, ◌≢◌, ℕ, zero, suc, ◌+◌, ◌-◌, ◌*◌, ◌/◌, ◌%◌, ◌^◌, ◌<◌, ◌≤◌, Bool, true, false, cond, ◌&&◌, ◌⊎◌, List, [], ◌∷◌, ◌++◌, length, get_or, set, map, Option, Some, None, Result, Ok, Err, is_some, nat_eq, refl, ap, sym, ◌∙◌, subst, arith, inl, inr, length-set}
+use Rattle.std.proofs.Common.{◌≡◌, ℕ, zero, suc, ◌+◌, ◌-◌, ◌*◌, ◌/◌, ◌%◌, ◌^◌, ◌<◌, ◌≤◌, Bool, true, false, cond, ◌&&◌, ◌⊎◌, List, [], ◌∷◌, ◌++◌, length, get_or, set, Option, Some, None, Result, Ok, Err, is_some, nat_eq, refl, ap, sym, ◌∙◌, subst, arith, inl, inr, length-set}
 use Rattle.std.specs.Global.{Box}
 use Rattle.std.specs.Box.{with_value}
 use Rattle.std.specs.Option.{option_map, option_and_then}
 use Rattle.std.proofs.lemmas.Bool.{false≢true, cases_lt}
-use Rattle.std.proofs.lemmas.List.{map-set, set-get_or}
+use Rattle.std.proofs.lemmas.List.{map-set}
 use Rattle.thread_system.specs.Memory.{next_address, read}
 use Rattle.std.proofs.Math.ListN.{length-replicate, length-map}
 use Rattle.fb_base.specs.declared.shape.Shape.{Shape}
 use Rattle.fb_base.specs.Shapes.{IsShape}
 use Rattle.places.specs.declared.kinds.Form.{Form}
 use Rattle.places.specs.declared.kinds.Cell.{Cell}
-use Rattle.places.specs.Place.{Place, Head, size_of, byte_in, cell_in, cell_number, may_close_in, puts_in, closes_in, with_closed_in, with_byte_in, with_cell_in, fresh, dead_cell}
+use Rattle.places.specs.Place.{Place, size_of, byte_in, cell_in, cell_number, may_close_in, puts_in, closes_in, with_closed_in, with_byte_in, with_cell_in, fresh, dead_cell}
 use Rattle.places.specs.Memory.{Places, place_at, place_of, starts_at, with_place, number_of, offset_of, byte_at, tells, each_byte}
-use Rattle.places.specs.Calls.{with_change, puts, written, closes, closed, may_close, with_cell, may_die, begun, most_live, new_head}
-use Rattle.places.specs.Standing.{IsPlace, Stands}
+use Rattle.places.specs.Calls.{replaced, with_change, puts, written, closes, closed, may_close, with_cell, may_die, begun, most_live, new_head}
+use Rattle.places.specs.Standing.{IsPlace}
 use Rattle.places.specs.Kept.{IsKept, places_of}
 use Rattle.places.specs.Answers.{IsWidth, Writes, SetsCell, Closes, Sets, Does}
 use Rattle.places.proofs.Bytes.{is_some_read, each_past}
 use Rattle.places.proofs.Lists.{length_number, length_flags}
 use Rattle.places.proofs.Shift.{Lies, lies, lies_number, lies_offset, lies_next, each_shift, read_shift, read_nowhere}
 use Rattle.places.proofs.Cells.{byte_low, close_low, close_past, access_past, width_some}
-use Rattle.places.proofs.Changed.{at_some, at_zero, given, with_same, with_itself, kept_with}
+use Rattle.places.proofs.Changed.{at_some, given, with_same, with_itself, kept_with}
 
 -- What a call on one place makes of the memory.
 
@@ -48,8 +48,8 @@ boxed_none items m i view = map-set (λ (o : Option (Box Place)). option_map (λ
 change_here : (f : ℕ → Place → Place) (m : Places) (a n o : ℕ) (p q : Place) → Lies a n o → place_at m n ≡ Some p → with_change f a (with_place n (Some q) m) ≡ with_place n (Some (f o q)) m
 change_here f m a n o p q l is =
     let g = given m n p is in
-    ap (λ k. with_place k (option_map (f (offset_of a)) (place_at (with_place n (Some q) m) k)) (with_place n (Some q) m)) (lies_number a n o l)
-    ∙ ap (λ x. with_place n (option_map (f (offset_of a)) x) (with_place n (Some q) m)) (with_same m n (Some q) g.0 g.1)
+    ap (λ k. replaced k (option_map (f (offset_of a)) (place_at (with_place n (Some q) m) k)) (with_place n (Some q) m)) (lies_number a n o l)
+    ∙ ap (λ x. replaced n (option_map (f (offset_of a)) x) (with_place n (Some q) m)) (with_same m n (Some q) g.0 g.1)
     ∙ ap (λ k. with_place n (Some (f k q)) (with_place n (Some q) m)) (lies_offset a n o l)
     ∙ set_again m (n - 1) (Some q) (Some (f o q))
 

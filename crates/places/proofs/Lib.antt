@@ -4,3 +4,4 @@ pub mod Changed
 pub mod Lists
 pub mod Shift
 pub mod Done
+pub mod Seen

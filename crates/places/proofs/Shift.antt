@@ -1,8 +1,7 @@
-use Rattle.std.proofs.Common.{◌≡◌, ℕ, zero, suc, ◌+◌, ◌-◌, ◌*◌, ◌/◌, ◌%◌, ◌^◌, ◌<◌, ◌≤◌, Bool, true, false, ◌&&◌, ◌⊎◌, Option, Some, None, is_some, refl, ap, sym, ◌∙◌, arith, inl, inr, eqb}
+use Rattle.std.proofs.Common.{◌≡◌, ℕ, zero, suc, ◌+◌, ◌*◌, ◌^◌, ◌<◌, Bool, true, false, ◌&&◌, Option, Some, None, refl, ap, sym, ◌∙◌, arith}
 use Rattle.std.specs.Option.{option_map, option_and_then}
-use Rattle.std.proofs.lemmas.Bool.{cases_lt}
 use Rattle.thread_system.specs.Memory.{next_address, read}
-use Rattle.places.specs.Place.{Place, size_of, byte_in}
+use Rattle.places.specs.Place.{Place, byte_in}
 use Rattle.places.specs.Memory.{Places, place_at, place_of, number_of, offset_of, byte_at, tells, each_byte}
 
 -- Several bytes from an address on are those of its place, by their offsets.

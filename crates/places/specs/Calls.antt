@@ -1,5 +1,5 @@
 -- What each call makes of a memory; None where it is refused.
-use Rattle.std.specs.Prelude.{ℕ, zero, suc, ◌+◌, ◌-◌, ◌*◌, ◌/◌, ◌%◌, ◌==◌, nat_lt, Bool, true, false, not, ◌&&◌, if◌then◌else◌, List, [], ◌∷◌, ◌++◌, slice_set, is_some, Option, Some, None}
+use Rattle.std.specs.Prelude.{ℕ, zero, suc, ◌+◌, ◌-◌, ◌*◌, ◌/◌, ◌%◌, ◌==◌, nat_lt, Bool, true, false, not, ◌&&◌, if◌then◌else◌, List, [], ◌∷◌, ◌++◌, is_some, Option, Some, None}
 use Rattle.std.specs.Option.{option_map, option_and_then}
 use Rattle.thread_system.specs.Memory.{next_address, read}
 use Rattle.fb_base.specs.declared.shape.Shape.{Shape}
@@ -61,9 +61,14 @@ abbrev pub begun : ℕ → Shape → Form → Places → Option (ℕ × Places)
 begun a shape form m =
     option_and_then (λ p. if may_die shape form p.head then Some (p.head.count, with_place (number_of a) (Some (record p { head = record p.head { dying = true } })) m) else None) (starts_at m a)
 
--- the memory with another place in place of the one of an address
+-- the memory with another place under a number, if one is given
+abbrev pub replaced : ℕ → Option Place → Places → Places
+replaced n None m = m
+replaced n (Some p) m = with_place n (Some p) m
+
+-- the memory after a change of the place of an address
 abbrev pub with_change : (ℕ → Place → Place) → ℕ → Places → Places
-with_change change a m = with_place (number_of a) (option_map (change (offset_of a)) (place_of m a)) m
+with_change change a m = replaced (number_of a) (option_map (change (offset_of a)) (place_of m a)) m
 
 -- So many bytes, from an address on, are closed.
 abbrev pub closes : ℕ → ℕ → Places → Places

@@ -1,8 +1,7 @@
 -- What is so of every memory that calls make.
-use Rattle.std.specs.Prelude.{◌≡◌, ℕ, ◌*◌, ◌^◌, ◌<◌, ◌≤◌, List, length, Some}
-use Rattle.std.specs.List.{All}
+use Rattle.std.specs.Prelude.{◌≡◌, ℕ, ◌*◌, ◌^◌, ◌<◌, ◌≤◌, length, Some}
 use Rattle.fb_base.specs.Shapes.{IsShape}
-use Rattle.places.specs.Place.{Head, Place, size_of}
+use Rattle.places.specs.Place.{Place, size_of}
 use Rattle.places.specs.Memory.{Places, place_at, live_size}
 use Rattle.places.specs.Calls.{most_live}
 

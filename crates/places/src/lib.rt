@@ -3,6 +3,7 @@
 
 mod flags;
 mod kinds;
+pub mod laws;
 mod memory;
 mod offsets;
 mod place;

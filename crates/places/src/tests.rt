@@ -117,7 +117,7 @@ fn answer(memory: &mut Memory, shape: &Shape, act: Act) -> Option<u64>
             _ => None,
         },
         Act::Cell(addr) => match memory.cell(addr) {
-            Some(cell) => Some(cell.alive as u64 * 10 + cell.desc.length),
+            Some(cell) => Some((cell.alive as u64 * 10).saturating_add(cell.desc.length)),
             None => None,
         },
         SetCell(addr, alive) => done(memory.set_cell(addr, cell(alive)).is_some()),

@@ -1,6 +1,6 @@
-use Rattle.std.proofs.Common.{◌≡◌, ◌+◌, ◌-◌, refl, sym, ◌∙◌, arith, length-set, ap, length, true}
+use Rattle.std.proofs.Common.{◌+◌, ◌-◌, ◌∙◌, arith, length-set, ap, length, true}
 use Rattle.places.specs.Place.{with_flags}
-use Rattle.places.proofs.Lists.{flags_next, flags_end}
+use Rattle.places.proofs.Lists.{flags_next}
 use Rattle.places.proofs.flags.Flags.set_all.Goals as goal
 
 pub loop-i-preserved : goal.loop-i-preserved

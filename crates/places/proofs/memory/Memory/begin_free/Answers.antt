@@ -1,8 +1,8 @@
-use Rattle.std.proofs.Common.{◌≡◌, ◌<◌, ◌-◌, Some, true, length, sym, subst, ◌∙◌, ap, arith, rules}
+use Rattle.std.proofs.Common.{◌≡◌, ◌-◌, Some, true, sym, subst, ◌∙◌, ap, rules}
 use Rattle.std.specs.Option.{option_map}
 use Rattle.places.specs.Place.{Place}
-use Rattle.places.specs.Memory.{Places, place_at, starts_at, number_of, with_place}
-use Rattle.places.specs.Calls.{may_die, begun}
+use Rattle.places.specs.Memory.{place_at, starts_at, number_of, with_place}
+use Rattle.places.specs.Calls.{may_die}
 use Rattle.places.specs.Kept.{IsKept}
 use Rattle.places.proofs.Changed.{given}
 use Rattle.places.proofs.Done.{boxed, boxed_within, boxed_set, dying, kept_dying, begin_done, started}

@@ -1,4 +1,4 @@
-use Rattle.std.proofs.Common.{◌≡◌, ◌/◌, ◌%◌, ◌^◌, sym, ◌∙◌, arith}
+use Rattle.std.proofs.Common.{sym, ◌∙◌, arith}
 use Rattle.places.specs.Place.{may_close_in}
 use Rattle.places.specs.Memory.{each_byte, number_of, offset_of}
 use Rattle.places.specs.Calls.{may_close, closes}

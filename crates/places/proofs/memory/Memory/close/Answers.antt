@@ -1,13 +1,12 @@
-use Rattle.std.proofs.Common.{◌≡◌, ◌<◌, ◌-◌, Some, None, set, refl, length, sym, subst, ◌∙◌, ap, arith, rules}
+use Rattle.std.proofs.Common.{◌≡◌, ◌<◌, ◌-◌, Some, None, set, length, sym, subst, ◌∙◌, ap, arith, rules}
 use Rattle.std.specs.Option.{option_map}
 use Rattle.places.specs.Memory.{place_at, number_of, offset_of}
 use Rattle.places.specs.Standing.{IsPlace, Stands}
 use Rattle.std.proofs.lemmas.List.{set-get_or}
 use Rattle.places.specs.Kept.{IsKept, places_of}
-use Rattle.places.proofs.Changed.{at_zero}
-use Rattle.places.specs.Answers.{Writes, SetsCell, Closes, Sets, Does}
-use Rattle.places.specs.Calls.{written, with_cell, closed}
-use Rattle.places.proofs.Done.{boxed, boxed_set, write_nowhere, close_nowhere, kept_written, write_done, kept_cell, cell_done, kept_closed, close_done}
+use Rattle.places.specs.Answers.{Closes, Does}
+use Rattle.places.specs.Calls.{closed}
+use Rattle.places.proofs.Done.{boxed, boxed_set, close_nowhere, kept_closed, close_done}
 use Rattle.places.proofs.memory.Memory.close.Goals as goal
 
 pub invariant_of-self : goal.invariant_of-self

@@ -1,8 +1,7 @@
-use Rattle.std.proofs.Common.{◌≡◌, ◌/◌, ◌%◌, ◌^◌, sym, ◌∙◌, arith}
+use Rattle.std.proofs.Common.{sym, ◌∙◌, arith}
 use Rattle.places.specs.Place.{is_live_in}
-use Rattle.places.specs.Memory.{each_byte, number_of, offset_of}
-use Rattle.places.specs.Calls.{may_close, closes}
-use Rattle.places.proofs.Cells.{live_low, some_if}
+use Rattle.places.specs.Memory.{number_of, offset_of}
+use Rattle.places.proofs.Cells.{live_low}
 use Rattle.places.proofs.Shift.{lies, each_shift}
 use Rattle.places.proofs.memory.Memory.live.Goals as goal
 

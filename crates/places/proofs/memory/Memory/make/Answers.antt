@@ -1,6 +1,5 @@
-use Rattle.std.proofs.Common.{◌≡◌, ◌<◌, ◌≤◌, ◌+◌, ◌*◌, ◌-◌, List, [], ◌∷◌, ◌++◌, Some, length, sym, subst, ◌∙◌, ap, arith, rules}
-use Rattle.places.specs.Place.{Place, size_of, fresh}
-use Rattle.places.specs.Memory.{Places}
+use Rattle.std.proofs.Common.{◌≡◌, ◌≤◌, ◌+◌, ◌*◌, [], ◌∷◌, ◌++◌, Some, sym, subst, ◌∙◌, ap, arith}
+use Rattle.places.specs.Place.{fresh}
 use Rattle.places.specs.Calls.{new_head, most_live}
 use Rattle.places.specs.Kept.{IsKept, places_of}
 use Rattle.places.proofs.Changed.{kept_push}

@@ -1,8 +1,6 @@
-use Rattle.std.proofs.Common.{◌≡◌, ◌/◌, ◌%◌, ◌^◌, sym, ◌∙◌, arith}
-use Rattle.places.specs.Place.{byte_in}
-use Rattle.places.specs.Memory.{each_byte, number_of, offset_of}
-use Rattle.places.specs.Calls.{may_close, closes}
-use Rattle.places.proofs.Cells.{byte_low, some_if}
+use Rattle.std.proofs.Common.{sym, ◌∙◌, arith}
+use Rattle.places.specs.Memory.{number_of, offset_of}
+use Rattle.places.proofs.Cells.{byte_low}
 use Rattle.places.proofs.Shift.{lies, read_shift}
 use Rattle.places.proofs.memory.Memory.read.Goals as goal
 

@@ -1,7 +1,7 @@
-use Rattle.std.proofs.Common.{◌≡◌, ◌<◌, ◌-◌, Some, None, true, set, length, sym, subst, ◌∙◌, ap, arith, rules}
+use Rattle.std.proofs.Common.{◌≡◌, ◌-◌, Some, set, sym, subst, ◌∙◌, ap}
 use Rattle.std.specs.Option.{option_map}
 use Rattle.places.specs.Place.{Place, size_of}
-use Rattle.places.specs.Memory.{place_at, starts_at, number_of, with_place}
+use Rattle.places.specs.Memory.{place_at, number_of}
 use Rattle.places.specs.Kept.{IsKept, places_of}
 use Rattle.places.proofs.Changed.{kept_without}
 use Rattle.places.proofs.Done.{boxed, boxed_none, boxed_within, started_some}

@@ -3,9 +3,9 @@ use Rattle.std.specs.Option.{option_map}
 use Rattle.places.specs.Memory.{place_at, number_of, offset_of}
 use Rattle.places.specs.Standing.{IsPlace, Stands}
 use Rattle.places.specs.Kept.{IsKept}
-use Rattle.places.specs.Answers.{Writes, SetsCell, Closes, Sets, Does}
-use Rattle.places.specs.Calls.{written, with_cell, closed}
-use Rattle.places.proofs.Done.{boxed, boxed_set, kept_written, write_done, kept_cell, cell_done, kept_closed, close_done}
+use Rattle.places.specs.Answers.{SetsCell, Sets}
+use Rattle.places.specs.Calls.{with_cell}
+use Rattle.places.proofs.Done.{boxed, boxed_set, kept_cell, cell_done}
 use Rattle.places.proofs.memory.Memory.set_cell.Goals as goal
 
 pub invariant_of-self : goal.invariant_of-self

@@ -5,10 +5,9 @@ use Rattle.places.specs.Memory.{place_at, number_of, offset_of}
 use Rattle.places.specs.Standing.{IsPlace, Stands}
 use Rattle.std.proofs.lemmas.List.{set-get_or}
 use Rattle.places.specs.Kept.{IsKept, places_of}
-use Rattle.places.proofs.Changed.{at_zero}
-use Rattle.places.specs.Answers.{Writes, SetsCell, Closes, Sets, Does}
-use Rattle.places.specs.Calls.{written, with_cell, closed}
-use Rattle.places.proofs.Done.{boxed, boxed_set, write_nowhere, close_nowhere, kept_written, write_done, kept_cell, cell_done, kept_closed, close_done}
+use Rattle.places.specs.Answers.{Writes, Sets}
+use Rattle.places.specs.Calls.{written}
+use Rattle.places.proofs.Done.{boxed, boxed_set, write_nowhere, kept_written, write_done}
 use Rattle.places.proofs.memory.Memory.write.Goals as goal
 
 pub invariant_of-self : goal.invariant_of-self

@@ -1,4 +1,4 @@
-use Rattle.std.proofs.Common.{◌≡◌, ℕ, Bool, true, false, ◌&&◌, eqb, List, [], ◌∷◌, refl, ap, sym, ◌∙◌}
+use Rattle.std.proofs.Common.{◌≡◌, ℕ, ◌&&◌, eqb, List, [], ◌∷◌, refl, ap, ◌∙◌}
 use lib.Pointwise.{pointwise}
 use Rattle.places.specs.Calls.{same_numbers}
 use Rattle.places.proofs.offsets.Offsets.is_same.Goals as goal

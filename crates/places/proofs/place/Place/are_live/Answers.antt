@@ -1,4 +1,4 @@
-use Rattle.std.proofs.Common.{◌≡◌, ◌+◌, arith, rules, sym}
+use Rattle.std.proofs.Common.{◌+◌, arith, rules, sym}
 use Rattle.places.specs.Place.{is_live_in, size_of}
 use Rattle.places.proofs.Bytes.{each_past, each_next}
 use Rattle.places.proofs.Cells.{live_past}

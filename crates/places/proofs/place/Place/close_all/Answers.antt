@@ -1,4 +1,4 @@
-use Rattle.std.proofs.Common.{◌≡◌, length, ap, ◌∙◌}
+use Rattle.std.proofs.Common.{length, ap, ◌∙◌}
 use Rattle.places.proofs.Lists.{length_flags}
 use Rattle.places.proofs.place.Place.close_all.Goals as goal
 

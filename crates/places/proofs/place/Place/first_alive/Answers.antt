@@ -1,4 +1,4 @@
-use Rattle.std.proofs.Common.{◌≡◌, false, arith, rules}
+use Rattle.std.proofs.Common.{◌≡◌, false, rules}
 use Rattle.places.specs.Place.{size_of}
 use Rattle.places.specs.Calls.{begins_alive}
 use Rattle.places.proofs.Bytes.{first_next}

@@ -1,5 +1,5 @@
-use Rattle.std.proofs.Common.{◌≡◌, ℕ, ◌+◌, ◌-◌, Bool, true, false, is_some, refl, ap, sym, ◌∙◌, arith, rules}
-use Rattle.places.specs.Place.{Place, byte_in, size_of}
+use Rattle.std.proofs.Common.{◌≡◌, ◌+◌, ◌-◌, true, false, is_some, ap, sym, ◌∙◌, arith, rules}
+use Rattle.places.specs.Place.{byte_in, size_of}
 use Rattle.places.specs.Memory.{each_byte}
 use Rattle.places.proofs.Bytes.{is_some_read, each_past, each_next, each_fails, each_ends}
 use Rattle.places.proofs.Cells.{access_past, width_some}

@@ -1,5 +1,4 @@
-use Rattle.std.proofs.Common.{◌≡◌, Some, None, sym, ◌∙◌, rules}
-use Rattle.places.specs.Place.{cell_number}
+use Rattle.std.proofs.Common.{sym, ◌∙◌}
 use Rattle.places.proofs.Cells.{access_cell, access_none}
 use Rattle.places.proofs.place.Place.may_access.Goals as goal
 

@@ -1,4 +1,4 @@
-use Rattle.std.proofs.Common.{◌≡◌, ◌∙◌, ap, sym, rules, arith}
+use Rattle.std.proofs.Common.{◌≡◌, ◌∙◌, ap, sym, rules}
 use Rattle.places.specs.Place.{number_in}
 use Rattle.places.proofs.Cells.{read_value}
 use Rattle.places.proofs.place.Place.read.Goals as goal
