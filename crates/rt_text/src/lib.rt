@@ -1,0 +1,6 @@
+//! The runtime's string calls, and the bytes that Print writes.
+#![tactic(auto)]
+
+mod print;
+
+pub use print::{Item, item_bytes};
