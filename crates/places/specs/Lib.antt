@@ -1,0 +1,6 @@
+pub mod Place
+pub mod Memory
+pub mod Calls
+pub mod Standing
+pub mod Kept
+pub mod Answers
