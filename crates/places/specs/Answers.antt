@@ -4,8 +4,8 @@ use Rattle.places.specs.declared.kinds.MakeErr.{MakeErr}
 use Rattle.places.specs.declared.kinds.MakeErr.TheVariants.{NoMemory, PlaceLimit}
 use Rattle.thread_system.specs.Memory.{read}
 use Rattle.places.specs.declared.kinds.Cell.{Cell}
-use Rattle.places.specs.Place.{Place, byte_in, cell_in, puts_in, with_cell_in}
-use Rattle.places.specs.Memory.{Places}
+use Rattle.places.specs.Place.{Place, byte_in, cell_in, may_close_in, puts_in, closes_in, with_cell_in}
+use Rattle.places.specs.Memory.{Places, each_byte}
 
 -- The widths of an access in bytes.
 abbrev pub IsWidth : ℕ → Type 0
@@ -40,3 +40,7 @@ Writes o width value old new None = (is_some (read (byte_in old) o width) ≡ fa
 abbrev pub SetsCell : {A : Type 0} → ℕ → Cell → Place → Place → Option A → Type 0
 SetsCell o cell old new (Some done) = (is_some (cell_in old o) ≡ true) × (with_cell_in o cell old ≡ Some new)
 SetsCell o cell old new None = (is_some (cell_in old o) ≡ false) × (new ≡ old)
+
+abbrev pub Closes : {A E : Type 0} → (o len : ℕ) → Place → Place → Result A E → Type 0
+Closes o len old new (Ok done) = (each_byte (may_close_in old) o len ≡ true) × (new ≡ closes_in o len old)
+Closes o len old new (Err e) = (each_byte (may_close_in old) o len ≡ false) × (new ≡ old)

@@ -1,8 +1,7 @@
 -- One place of a memory, by the offsets of its bytes.
-use Rattle.std.specs.Prelude.{ℕ, zero, suc, ◌+◌, ◌*◌, ◌/◌, ◌%◌, ◌==◌, nat_lt, nat_le, Bool, true, false, not, ◌&&◌, if◌then◌else◌, List, [], ◌∷◌, length, replicate, slice_get, slice_index_or, slice_set, is_some, is_none, Option, Some, None}
-use Rattle.std.specs.List.{list_any}
+use Rattle.std.specs.Prelude.{ℕ, zero, suc, ◌+◌, ◌-◌, ◌*◌, ◌/◌, ◌%◌, ◌==◌, nat_lt, nat_le, Bool, true, false, not, ◌&&◌, if◌then◌else◌, List, [], ◌∷◌, length, replicate, slice_get, slice_index_or, slice_set, is_some, is_none, Option, Some, None}
+use Rattle.std.specs.List.{list_any, position}
 use Rattle.std.specs.Option.{option_map, option_and_then}
-use Rattle.thread_system.specs.Memory.{next_address}
 use Rattle.fb_base.specs.declared.shape.Shape.{Shape}
 use Rattle.places.specs.declared.kinds.Form.{Form}
 use Rattle.places.specs.declared.kinds.Cell.{Cell}
@@ -31,8 +30,7 @@ size_of h = h.shape.size * h.count
 
 -- Which of the cells that begin at these offsets has a byte; a cell has 24 bytes.
 abbrev pub cell_over : List ℕ → ℕ → Option ℕ
-cell_over [] o = None
-cell_over (c ∷ cs) o = if nat_le c o && nat_lt o (c + 24) then Some 0 else option_map (λ k. k + 1) (cell_over cs o)
+cell_over cells o = position (λ c. nat_le c o && nat_lt (o - c) 24) cells
 
 -- Which cell of a place has a byte: each element has the cells of the shape.
 abbrev pub cell_number : Head → ℕ → Option ℕ
@@ -85,14 +83,20 @@ abbrev pub with_closed_in : ℕ → Place → Place
 with_closed_in o p = record p { closed = slice_set p.closed o true }
 
 -- So many bytes, from an offset on, are those of a value, the lowest first.
-abbrev pub puts_in : ℕ → ℕ → ℕ → Place → Place
-puts_in o zero value p = p
-puts_in o (suc width) value p = with_byte_in o (value % 256) (puts_in (next_address o) width (value / 256) p)
+abbrev pub with_number : ℕ → ℕ → ℕ → List ℕ → List ℕ
+with_number o zero value bytes = bytes
+with_number o (suc width) value bytes = slice_set (with_number (o + 1) width (value / 256) bytes) o (value % 256)
 
--- So many bytes, from an offset on, are closed.
+abbrev pub puts_in : ℕ → ℕ → ℕ → Place → Place
+puts_in o width value p = record p { bytes = with_number o width value p.bytes }
+
+-- So many flags, from one on, are set.
+abbrev pub with_flags : ℕ → ℕ → List Bool → List Bool
+with_flags i zero flags = flags
+with_flags i (suc n) flags = with_flags (i + 1) n (slice_set flags i true)
+
 abbrev pub closes_in : ℕ → ℕ → Place → Place
-closes_in o zero p = p
-closes_in o (suc len) p = closes_in (next_address o) len (with_closed_in o p)
+closes_in o len p = record p { closed = with_flags o len p.closed }
 
 -- with another cell in place of the one that has this byte
 abbrev pub with_cell_in : ℕ → Cell → Place → Option Place
@@ -107,7 +111,3 @@ first_from test o (suc n) = if test o then Some o else first_from test (o + 1) n
 abbrev pub number_in : List ℕ → ℕ → ℕ → ℕ
 number_in bytes o zero = 0
 number_in bytes o (suc width) = slice_index_or bytes o 0 + 256 * number_in bytes (o + 1) width
-
--- the offset of a cell by its number
-abbrev pub cell_offset : Head → ℕ → ℕ
-cell_offset h k = k / length h.shape.cells * h.shape.size + slice_index_or h.shape.cells (k % length h.shape.cells) 0

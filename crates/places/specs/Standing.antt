@@ -10,6 +10,7 @@ use Rattle.places.specs.Calls.{most_live}
 pub record IsPlace (p : Place) : Type 0 where
   pub shape : IsShape 0 p.head.shape
   pub some : 1 ≤ p.head.count
+  pub limit : size_of p.head ≤ most_live
   pub bytes : length p.bytes ≡ size_of p.head
   pub closed : length p.closed ≡ size_of p.head
   pub cells : length p.cells ≡ p.head.count * length p.head.shape.cells

@@ -1,4 +1,5 @@
-ghost use Rattle.std.specs.Prelude.{◌≡◌, ◌<◌, false, true, length, replicate, slice_index_or, slice_set, IfOk};
+ghost use Rattle.std.specs.Prelude.{◌≡◌, ◌+◌, ◌^◌, ◌<◌, ◌≤◌, false, true, length, replicate, slice_index_or, slice_set, IfOk};
+ghost use Rattle.places.specs.Place.{with_flags};
 
 use fb_base::NoMemory;
 use std::alloc::Global;
@@ -45,5 +46,16 @@ impl Flags {
         ensures { self.new ≡ slice_set self.old i true }
     {
         self.flags[i] = true;
+    }
+
+    /// Sets so many flags, from one on.
+    pub(crate) fn set_all(&mut self, from: usize, count: usize)
+        requires within { from + count ≤ length self.old }
+        requires limit { from + count < 2 ^ 63 }
+        ensures { self.new ≡ with_flags from count self.old }
+    {
+        for i in from..from + count {
+            self.set(i);
+        }
     }
 }

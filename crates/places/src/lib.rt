@@ -6,6 +6,8 @@ mod kinds;
 mod memory;
 mod offsets;
 mod place;
+#[cfg(test)]
+mod tests;
 
 use fb_base::NoMemory;
 pub use kinds::{BadFree, BadPointer, Cell, Form, MakeErr};

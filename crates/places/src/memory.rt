@@ -1,10 +1,10 @@
-ghost use Rattle.std.specs.Prelude.{◌≡◌, ℕ, true, ◌+◌, ◌*◌, ◌/◌, ◌%◌, ◌^◌, ◌<◌, ◌≤◌, Option, Some, None, is_some};
+ghost use Rattle.std.specs.Prelude.{◌≡◌, ℕ, true, ◌+◌, ◌*◌, ◌/◌, ◌%◌, ◌^◌, ◌<◌, ◌≤◌, Option, Some, None, is_some, IfSome};
 ghost use Rattle.thread_system.specs.Memory.{read};
 ghost use Rattle.fb_base.specs.Shapes.{IsShape};
 ghost use Rattle.std.specs.Option.{option_copied};
 ghost use Rattle.places.specs.Memory.{no_places, next_number, number_of, place_at, starts_at, with_place, byte_at, cell_at, is_live, each_byte};
 ghost use Rattle.places.specs.Calls.{made, scope_freed, begun, freed, closed, written, with_cell, alive_from};
-ghost use Rattle.places.specs.Standing.{Stands};
+ghost use Rattle.places.specs.Standing.{IsPlace, Stands};
 ghost use Rattle.places.specs.Answers.{IsWidth, Does, Gives, Sets, Makes};
 
 use crate::place::Place;
@@ -61,6 +61,13 @@ impl Memory {
         let _ = &self.live;
     }
 
+    /// The number that the next place gets.
+    pub fn next(&self) -> u64
+        ensures { result ≡ next_number self.now }
+    {
+        self.places.len() as u64 + 1
+    }
+
     /// Makes a place of so many elements, with zeros as its bytes and no cell alive, and gives the address of its first
     /// byte. PlaceLimit comes exactly where the live places would have more than 67,108,864 bytes together. After an
     /// error all is as before.
@@ -89,7 +96,8 @@ impl Memory {
     // The place with a number, if there is one.
     #[inline]
     fn place(&self, number: u64) -> Option<&Place>
-        ensures { option_copied result ≡ place_at self.now number }
+        ensures found { option_copied result ≡ place_at self.now number }
+        ensures lawful { IfSome result (λ p. IsPlace p.now) }
     {
         if number == 0 || number > self.places.len() as u64 {
             return None;
@@ -102,7 +110,8 @@ impl Memory {
 
     // The place that begins at an address.
     fn starting(&self, addr: u64) -> Option<&Place>
-        ensures { option_copied result ≡ starts_at self.now addr }
+        ensures found { option_copied result ≡ starts_at self.now addr }
+        ensures aligned { IfSome result (λ _. addr % 2 ^ 32 ≡ 0) }
     {
         if addr % 0x1_0000_0000 == 0 {
             self.place(addr >> 32)
@@ -148,9 +157,9 @@ impl Memory {
         match &mut self.places[(addr >> 32) as usize - 1] {
             Some(place) => {
                 place.die();
-                Ok(place.count())
+                return Ok(place.count());
             }
-            None => Err(BadFree),
+            None => return Err(BadFree),
         }
     }
 
@@ -171,17 +180,17 @@ impl Memory {
     pub fn close(&mut self, addr: u64, len: u64) -> Result<(), BadPointer>
         ensures { Does (closed addr len self.old) self.old self.new result }
     {
-        if !self.can_close(addr, len) {
-            return Err(BadPointer);
-        }
         if len == 0 {
             return Ok(());
         }
-        match &mut self.places[(addr >> 32) as usize - 1] {
-            Some(place) => place.close(addr % 0x1_0000_0000, len),
-            None => (),
+        let number = addr >> 32;
+        if number == 0 || number > self.places.len() as u64 {
+            return Err(BadPointer);
         }
-        Ok(())
+        match &mut self.places[number as usize - 1] {
+            Some(place) => return place.close(addr % 0x1_0000_0000, len),
+            None => return Err(BadPointer),
+        }
     }
 
     /// Whether `free_scope` would free a place.
@@ -247,8 +256,8 @@ impl Memory {
             return None;
         }
         match &mut self.places[number as usize - 1] {
-            Some(place) => place.write(addr % 0x1_0000_0000, width, v),
-            None => None,
+            Some(place) => return place.write(addr % 0x1_0000_0000, width, v),
+            None => return None,
         }
     }
 
@@ -271,8 +280,8 @@ impl Memory {
             return None;
         }
         match &mut self.places[number as usize - 1] {
-            Some(place) => place.set_cell(addr % 0x1_0000_0000, cell),
-            None => None,
+            Some(place) => return place.set_cell(addr % 0x1_0000_0000, cell),
+            None => return None,
         }
     }
 

@@ -1,7 +1,9 @@
-ghost use Rattle.std.specs.Prelude.{◌≡◌, ◌+◌, ◌<◌, ◌==◌, length, IfOk};
+ghost use Rattle.std.specs.Prelude.{◌≡◌, ◌*◌, ◌≤◌, ◌==◌, [], length, IfOk};
+ghost use Rattle.std.specs.Bool.{OnTrue};
 ghost use Rattle.std.specs.List.{list_any};
 ghost use Rattle.fb_base.specs.Shapes.{AreCells};
 ghost use Rattle.places.specs.Place.{cell_over};
+ghost use Rattle.places.specs.Calls.{same_numbers};
 
 use fb_base::NoMemory;
 use std::alloc::Global;
@@ -25,7 +27,8 @@ impl Offsets {
     /// The same offsets, of the cells of a shape with so many bytes.
     pub(crate) fn new(alloc: Global, offsets: &[u64], size: u64) -> Result<Offsets, NoMemory>
         requires { AreCells size offsets.now }
-        ensures { IfOk result (λ o. o ≡ offsets.now) }
+        ensures ok { IfOk result (λ o. o ≡ offsets.now) }
+        ensures few { length offsets.now * 24 ≤ size }
     {
         Ok(Offsets {
             offsets: Vec::from_slice(alloc, offsets)?,
@@ -39,25 +42,26 @@ impl Offsets {
         self.offsets.len()
     }
 
-    /// The offsets.
-    pub(crate) fn as_slice(&self) -> &[u64]
-        ensures { result.now ≡ self.now }
+    /// Whether there are none.
+    #[inline]
+    pub(crate) fn is_empty(&self) -> bool
+        ensures { OnTrue result (self.now ≡ []) }
     {
-        self.offsets.as_slice()
+        self.offsets.is_empty()
+    }
+
+    /// Whether these are the same offsets.
+    pub(crate) fn is_same(&self, offsets: &[u64]) -> bool
+        ensures { result ≡ same_numbers self.now offsets.now }
+    {
+        self.offsets.as_slice() == offsets
     }
 
     /// Which cell has a byte.
     pub(crate) fn over(&self, o: u64) -> Option<usize>
         ensures { result ≡ cell_over self.now o }
     {
-        let mut k = 0;
-        for c in &self.offsets {
-            if *c <= o && o - *c < 24 {
-                return Some(k);
-            }
-            k += 1;
-        }
-        None
+        self.offsets.iter().position(|c| *c <= o && o - *c < 24)
     }
 
     /// Whether a cell begins at an offset.

@@ -1,15 +1,16 @@
-ghost use Rattle.std.specs.Prelude.{◌≡◌, ℕ, nat_le, ◌+◌, ◌-◌, ◌*◌, ◌^◌, ◌<◌, ◌≤◌, true, Option, Some, None, is_some, length, IfOk, IfSome, MatchOption};
+ghost use Rattle.std.specs.Prelude.{◌≡◌, ℕ, ◌+◌, ◌-◌, ◌*◌, ◌^◌, ◌<◌, ◌≤◌, true, Option, Some, None, is_some, length, IfOk, IfSome};
+ghost use Rattle.std.specs.Bool.{OnTrue, OnFalse};
 ghost use Rattle.thread_system.specs.Memory.{read};
 ghost use Rattle.fb_base.specs.Shapes.{IsShape};
 ghost use Rattle.places.specs.Place as spec;
 ghost use Rattle.places.specs.Memory.{each_byte};
-ghost use Rattle.places.specs.Calls.{new_head, may_die, is_scope, begins_alive};
+ghost use Rattle.places.specs.Calls.{most_live, new_head, may_die, is_scope, begins_alive};
 ghost use Rattle.places.specs.Standing.{IsPlace};
-ghost use Rattle.places.specs.Answers.{IsWidth, Writes, SetsCell};
+ghost use Rattle.places.specs.Answers.{IsWidth, Writes, SetsCell, Closes};
 
 use crate::flags::Flags;
 use crate::offsets::Offsets;
-use crate::{Cell, Form, NoMemory};
+use crate::{BadPointer, Cell, Form, NoMemory};
 use fb_base::{Desc, Shape};
 use std::alloc::Global;
 use std::marker::Model;
@@ -117,7 +118,7 @@ impl Place {
             && self.form == form
             && self.size == shape.size
             && self.align == shape.align
-            && self.offsets.as_slice() == shape.cells.as_slice()
+            && self.offsets.is_same(shape.cells.as_slice())
     }
 
     /// It is dying from now on.
@@ -131,8 +132,13 @@ impl Place {
     #[inline]
     fn cell_number(&self, o: u64) -> Option<usize>
         requires { o < spec.size_of self.now.head }
-        ensures { result ≡ spec.cell_number self.now.head o }
+        ensures number { result ≡ spec.cell_number self.now.head o }
+        ensures within { IfSome result (λ k. k < length self.now.cells) }
+        ensures place { IsPlace self.now }
     {
+        if self.offsets.is_empty() {
+            return None;
+        }
         let k = self.offsets.over(o % self.size)?;
         Some((o / self.size) as usize * self.offsets.len() + k)
     }
@@ -140,7 +146,8 @@ impl Place {
     #[inline]
     fn is_live(&self, o: u64) -> bool
         requires { o < spec.size_of self.now.head }
-        ensures { result ≡ spec.is_live_in self.now o }
+        ensures live { result ≡ spec.is_live_in self.now o }
+        ensures place { IsPlace self.now }
     {
         !self.closed.get(o as usize)
     }
@@ -150,7 +157,10 @@ impl Place {
         requires { o < spec.size_of self.now.head }
         ensures { result ≡ is_some (spec.byte_in self.now o) }
     {
-        self.is_live(o) && self.cell_number(o).is_none()
+        match self.cell_number(o) {
+            Some(_) => false,
+            None => self.is_live(o),
+        }
     }
 
     fn may_close(&self, o: u64) -> bool
@@ -166,7 +176,10 @@ impl Place {
     // Whether so many bytes, from an offset on, are all its own.
     #[inline]
     fn has(&self, o: u64, len: u64) -> bool
-        ensures { result ≡ nat_le (o + len) (spec.size_of self.now.head) }
+        ensures within { OnTrue result (o + len ≤ spec.size_of self.now.head) }
+        ensures beyond { OnFalse result (spec.size_of self.now.head < o + len) }
+        ensures limit { spec.size_of self.now.head ≤ most_live }
+        ensures place { IsPlace self.now }
     {
         let size = self.bytes.len() as u64;
         o <= size && len <= size - o
@@ -194,12 +207,15 @@ impl Place {
     /// Whether each of so many bytes, from an offset on, may be closed.
     pub(crate) fn may_close_all(&self, o: u64, len: u64) -> bool
         requires { o < 2 ^ 32 }
-        ensures { result ≡ each_byte (spec.may_close_in self.now) o len }
+        ensures all { result ≡ each_byte (spec.may_close_in self.now) o len }
+        ensures within { OnTrue result (0 < len → o + len ≤ spec.size_of self.now.head) }
+        ensures limit { spec.size_of self.now.head ≤ most_live }
     {
+        let fits = self.has(o, len);
         if len == 0 {
             return true;
         }
-        if !self.has(o, len) {
+        if !fits {
             return false;
         }
         for at in o..o + len {
@@ -210,14 +226,26 @@ impl Place {
         true
     }
 
-    /// Closes so many bytes, from an offset on.
-    pub(crate) fn close(&mut self, o: u64, len: u64)
-        requires { o + len ≤ spec.size_of self.old.head }
+    // Closes so many bytes, from an offset on.
+    fn close_all(&mut self, o: u64, len: u64)
+        requires within { o + len ≤ spec.size_of self.old.head }
+        requires limit { o + len ≤ most_live }
         ensures { self.new ≡ spec.closes_in o len self.old }
     {
-        for at in o..o + len {
-            self.closed.set(at as usize);
+        self.closed.set_all(o as usize, len as usize);
+    }
+
+    /// Closes at least one byte, from an offset on, if they all may be closed.
+    pub(crate) fn close(&mut self, o: u64, len: u64) -> Result<(), BadPointer>
+        requires at { o < 2 ^ 32 }
+        requires some { 0 < len }
+        ensures { Closes o len self.old self.new result }
+    {
+        if !self.may_close_all(o, len) {
+            return Err(BadPointer);
         }
+        self.close_all(o, len);
+        Ok(())
     }
 
     // Whether each of 1, 2, 4 or 8 bytes, from an offset on, may be accessed.
@@ -225,7 +253,10 @@ impl Place {
     fn is_open(&self, o: u64, width: u8) -> bool
         requires at { o < 2 ^ 32 }
         requires width { IsWidth width }
-        ensures { result ≡ is_some (read (spec.byte_in self.now) o width) }
+        ensures all { result ≡ is_some (read (spec.byte_in self.now) o width) }
+        ensures within { OnTrue result (o + width ≤ spec.size_of self.now.head) }
+        ensures limit { OnTrue result (o + width ≤ most_live) }
+        ensures place { IsPlace self.now }
     {
         if !self.has(o, width as u64) {
             return false;
@@ -249,7 +280,8 @@ impl Place {
 
     #[inline]
     fn two(&self, o: usize) -> u64
-        requires { o + 2 ≤ spec.size_of self.now.head }
+        requires within { o + 2 ≤ spec.size_of self.now.head }
+        requires limit { o + 2 ≤ most_live }
         ensures value { result ≡ spec.number_in self.now.bytes o 2 }
         ensures below { result < 2 ^ 16 }
     {
@@ -258,7 +290,8 @@ impl Place {
 
     #[inline]
     fn four(&self, o: usize) -> u64
-        requires { o + 4 ≤ spec.size_of self.now.head }
+        requires within { o + 4 ≤ spec.size_of self.now.head }
+        requires limit { o + 4 ≤ most_live }
         ensures value { result ≡ spec.number_in self.now.bytes o 4 }
         ensures below { result < 2 ^ 32 }
     {
@@ -267,7 +300,8 @@ impl Place {
 
     #[inline]
     fn eight(&self, o: usize) -> u64
-        requires { o + 8 ≤ spec.size_of self.now.head }
+        requires within { o + 8 ≤ spec.size_of self.now.head }
+        requires limit { o + 8 ≤ most_live }
         ensures { result ≡ spec.number_in self.now.bytes o 8 }
     {
         self.four(o) + 0x1_0000_0000 * self.four(o + 4)
@@ -293,6 +327,45 @@ impl Place {
         Some(value)
     }
 
+    #[inline]
+    fn put_one(&mut self, o: usize, v: u64)
+        requires within { o + 1 ≤ spec.size_of self.old.head }
+        requires limit { o + 1 ≤ most_live }
+        ensures { self.new ≡ spec.puts_in o 1 v self.old }
+    {
+        self.bytes[o] = (v % 0x100) as u8;
+    }
+
+    #[inline]
+    fn put_two(&mut self, o: usize, v: u64)
+        requires within { o + 2 ≤ spec.size_of self.old.head }
+        requires limit { o + 2 ≤ most_live }
+        ensures { self.new ≡ spec.puts_in o 2 v self.old }
+    {
+        self.put_one(o + 1, v / 0x100);
+        self.put_one(o, v);
+    }
+
+    #[inline]
+    fn put_four(&mut self, o: usize, v: u64)
+        requires within { o + 4 ≤ spec.size_of self.old.head }
+        requires limit { o + 4 ≤ most_live }
+        ensures { self.new ≡ spec.puts_in o 4 v self.old }
+    {
+        self.put_two(o + 2, v / 0x1_0000);
+        self.put_two(o, v);
+    }
+
+    #[inline]
+    fn put_eight(&mut self, o: usize, v: u64)
+        requires within { o + 8 ≤ spec.size_of self.old.head }
+        requires limit { o + 8 ≤ most_live }
+        ensures { self.new ≡ spec.puts_in o 8 v self.old }
+    {
+        self.put_four(o + 4, v / 0x1_0000_0000);
+        self.put_four(o, v);
+    }
+
     /// Writes the low bytes of a value to 1, 2, 4 or 8 bytes from an offset on, if they all may be accessed.
     #[inline]
     pub(crate) fn write(&mut self, o: u64, width: u8, v: u64) -> Option<()>
@@ -304,8 +377,11 @@ impl Place {
             return None;
         }
         let at = o as usize;
-        for i in 0..width {
-            self.bytes[at + i as usize] = ((v >> (8 * i)) % 0x100) as u8;
+        match width {
+            1 => self.put_one(at, v),
+            2 => self.put_two(at, v),
+            4 => self.put_four(at, v),
+            _ => self.put_eight(at, v),
         }
         Some(())
     }
@@ -323,7 +399,10 @@ impl Place {
         ensures within { IfSome result (λ k. k < length self.now.cells) }
         ensures begins { is_some result ≡ is_some (spec.cell_in self.now o) }
     {
-        if !self.has(o, 1) || !self.offsets.has(o % self.size) {
+        if !self.has(o, 1) {
+            return None;
+        }
+        if !self.offsets.has(o % self.size) {
             return None;
         }
         self.cell_number(o)
@@ -338,31 +417,26 @@ impl Place {
         Some(())
     }
 
-    // The offset of a cell.
-    fn cell_offset(&self, k: usize) -> u64
-        requires { k < length self.now.cells }
-        ensures { result ≡ spec.cell_offset self.now.head k }
-    {
-        let many = self.offsets.len();
-        (k / many) as u64 * self.size + self.offsets.as_slice()[k % many]
-    }
-
     /// The offset of the first alive cell, from an offset on.
     pub(crate) fn first_alive(&self, from: u64) -> Option<u64>
-        ensures { result ≡ spec.first_from (begins_alive self.now) from (spec.size_of self.now.head - from) }
+        ensures found { result ≡ spec.first_from (begins_alive self.now) from (spec.size_of self.now.head - from) }
+        ensures low { IfSome result (λ o. o < 2 ^ 31) }
     {
-        if !self.has(from, 1) || self.cells.is_empty() {
-            return None;
-        }
-        let first = (from / self.size) as usize * self.offsets.len();
-        for k in first..self.cells.len() {
-            if self.cells[k].alive {
-                let o = self.cell_offset(k);
-                if from <= o {
-                    return Some(o);
-                }
+        for at in from..self.bytes.len() as u64 {
+            if self.begins_alive(at) {
+                return Some(at);
             }
         }
         None
+    }
+
+    // Whether an alive cell begins at an offset.
+    fn begins_alive(&self, o: u64) -> bool
+        ensures { result ≡ begins_alive self.now o }
+    {
+        match self.beginning(o) {
+            Some(k) => self.cells[k].alive,
+            None => false,
+        }
     }
 }

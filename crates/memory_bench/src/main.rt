@@ -1,0 +1,105 @@
+//! Times reads and writes of 8 bytes of guest memory, with few and with many live places. Without an argument it says
+//! what it read; with one it prints nanoseconds.
+#![tactic(auto)]
+
+ghost use Rattle.std.specs.Prelude.{◌≡◌};
+ghost use Rattle.fb_base.specs.Shapes.{IsShape};
+
+use fb_base::{Cells, Shape};
+use places::{Form, Memory};
+use std::alloc::Global;
+use std::time::{Clock, Instant};
+use std::{env, io};
+
+// How often an access is done.
+const ROUNDS: u64 = 10_000_000;
+
+// A step from one number to another that visits the numbers in no order, and all of them where their count is no
+// multiple of it.
+const STRIDE: u64 = 7_919;
+
+// Places of 64 bytes.
+fn shape(alloc: Global) -> Shape
+    ensures { IsShape 0 result }
+{
+    Shape {
+        size: 64,
+        align: 8,
+        cells: Cells::new(alloc),
+    }
+}
+
+// A memory with so many places, if there is room for them.
+fn memory_of(alloc: Global, places: u64) -> Option<Memory> {
+    let shape = shape(alloc);
+    let mut memory = Memory::new(alloc);
+    for _ in 0..places {
+        if memory.next() >= 0x4000_0000 {
+            return None;
+        }
+        memory.make(&shape, 1, Form::One).ok()?;
+    }
+    Some(memory)
+}
+
+// The address of a word in one of so many places, by the number of a round.
+fn address(round: u64, places: u64) -> u64 {
+    let place = round.wrapping_mul(STRIDE) % places.max(1);
+    (place % 0x4000_0000 + 1) * 0x1_0000_0000 + round % 8 * 8
+}
+
+// Writes so many words, each its round.
+fn write_words(memory: &mut Memory, places: u64, rounds: u64) -> u64 {
+    let mut done = 0u64;
+    for round in 0..rounds {
+        if memory.write(address(round, places), 8, round).is_some() {
+            done = done.wrapping_add(1);
+        }
+    }
+    done
+}
+
+// Reads so many words, and adds them.
+fn read_words(memory: &Memory, places: u64, rounds: u64) -> u64 {
+    let mut sum = 0u64;
+    for round in 0..rounds {
+        if let Some(word) = memory.read(address(round, places), 8) {
+            sum = sum.wrapping_add(word);
+        }
+    }
+    sum
+}
+
+fn print_times(rt: &(impl Clock + Print), alloc: Global, places: u64) -> io::Result<()> {
+    let start = Instant::now(rt)?;
+    let Some(mut memory) = memory_of(alloc, places) else {
+        return println!(rt; "no memory for {places} places");
+    };
+    let made = start.elapsed(rt)?.as_nanos() / u128::from(places.max(1));
+    let start = Instant::now(rt)?;
+    let written = write_words(&mut memory, places, ROUNDS);
+    let writing = start.elapsed(rt)?.as_nanos() / 10_000;
+    let start = Instant::now(rt)?;
+    let sum = read_words(&memory, places, ROUNDS);
+    let reading = start.elapsed(rt)?.as_nanos() / 10_000;
+    println!(rt;
+        "{places} places: {made} nanoseconds to make one; picoseconds for a read {reading}, for a write {writing} ({written} written, sum {sum})"
+    )
+}
+
+fn main(rt: HostRuntime) -> io::Result<()> {
+    let alloc = rt.alloc();
+    if env::args(&rt)?.count() > 1 {
+        print_times(&rt, alloc, 1)?;
+        print_times(&rt, alloc, 1_000)?;
+        return print_times(&rt, alloc, 1_000_000);
+    }
+    match memory_of(alloc, 10) {
+        Some(mut memory) => {
+            let written = write_words(&mut memory, 10, 80);
+            let sum = read_words(&memory, 10, 80);
+            println!(rt; "{written} words written to 10 places; they add up to {sum}")
+        }
+        None => println!(rt; "no memory"),
+    }
+}
