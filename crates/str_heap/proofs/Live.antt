@@ -1,9 +1,9 @@
 -- What calls on a heap leave of the strings of other descriptors.
-use Rattle.std.proofs.Common.{◌≡◌, ◌≢◌, ℕ, ◌+◌, ◌*◌, ◌<◌, ◌≤◌, eqb, eqb-true, List, [], set, length, take, drop, get_or, refl, sym, ap, ◌∙◌, arith, length-take, length-drop}
-use Rattle.std.proofs.lemmas.List.{get_or-set_same, get_or-set_other}
+use Rattle.std.proofs.Common.{◌≡◌, ◌≢◌, ℕ, zero, suc, ◌-◌, ◌+◌, ◌*◌, ◌<◌, ◌≤◌, eqb, eqb-true, List, [], ◌∷◌, set, length, take, drop, get_or, refl, sym, ap, ◌∙◌, arith, length-take, length-drop}
+use Rattle.std.proofs.lemmas.List.{get_or-set_same, get_or-set_other, length-set, drop-set-add, drop-set-lt, take-set-le}
 use Rattle.fb_base.specs.declared.shape.Desc.{Desc}
 use Rattle.str_heap.specs.Blocks.{Spans}
-use Rattle.str_heap.specs.Payloads.{blocks, contents, bytes_at, bytes_of, IsLive, KeepsOthers, IsApart, Keeps, Stores, Releases, Assigns}
+use Rattle.str_heap.specs.Payloads.{blocks, contents, bytes_at, bytes_of, IsLive, KeepsOthers, IsApart, Keeps, Changes, Stores, Releases, Assigns}
 use Rattle.str_heap.specs.Sound.{Begins, IsSound}
 use Rattle.str_heap.proofs.Runs.{by_test, by_order}
 use Rattle.str_heap.proofs.Arena.{contents-at}
@@ -99,3 +99,71 @@ assigned_keeps old middle new d f bytes s r e l apart =
     let first = stored_keeps old middle f bytes s e l in
     let next = released_keeps middle new d r e first.0.live apart in
     (record { live = next.live; same = next.same ∙ first.0.same }, first.1)
+
+take-set-below : (n i b : ℕ) (xs : List ℕ) → i < n → take n (set xs i b) ≡ set (take n xs) i b
+take-set-below zero i b xs lt = absurd (omega arith)
+take-set-below (suc n) i b [] lt = refl
+take-set-below (suc n) zero b (x ∷ xs) lt = refl
+take-set-below (suc n) (suc i) b (x ∷ xs) lt = ap (λ (t : List ℕ). x ∷ t) (take-set-below n i b xs (omega arith))
+
+-- a byte of a live descriptor's string, in what a heap keeps
+module _ (L A : List ℕ) (H : Spans) (live : ℕ) (d : Desc) (s : IsSound L A H live) (l : IsLive (contents L A) d) (i b : ℕ) (inner : i < d.length) where
+  some' : 0 < d.length
+  some' = omega arith
+
+  p : ℕ
+  p = d.place
+
+  long' : get_or L d.place 0 ≡ d.length
+  long' = begins_here L A H live d s l some'
+
+  here' : bytes_at (contents L (set A (16 * d.place + i) b)) d.place ≡ set (bytes_at (contents L A) d.place) i b
+  here' =
+      let n = get_or L d.place 0 in
+      contents-at L (set A (16 * d.place + i) b) d.place ∙ ap (take n) (drop-set-add (16 * d.place) A i b)
+      ∙ take-set-below n i b (drop (16 * d.place) A) (omega (arith, long'))
+      ∙ ap (λ (t : List ℕ). set t i b) (sym (contents-at L A d.place))
+
+  away' : (k : ℕ) → k ≢ d.place → bytes_at (contents L (set A (16 * d.place + i) b)) k ≡ bytes_at (contents L A) k
+  away' k other =
+      let n = get_or L k 0 in
+      let at = 16 * d.place + i in
+      let size = size_here L A H live d s l some' in
+      let here = begins L A H live d s l some' in
+      contents-at L (set A at b) k
+      ∙ by_order 0 n
+      (λ begun.
+      by_order k d.place
+      (λ lt. let end = s.apart k d.place lt begun here in let e : 16 * k + (at - 16 * k) ≡ at = omega arith in
+      ap (λ (j : ℕ). take n (drop (16 * k) (set A j b))) (sym e) ∙ ap (take n) (drop-set-add (16 * k) A (at - 16 * k) b) ∙ take-set-le n (drop (16 * k) A) (at - 16 * k) b (omega arith))
+      (λ le. let lt : d.place < k = by_order d.place k (λ lt. lt) (λ le'. absurd (other (omega arith))) in
+      ap (take n) (drop-set-lt (16 * k) A at b (omega (arith, s.apart d.place k lt here begun, long')))))
+      (λ none. let z : n ≡ 0 = omega arith in ap (λ (j : ℕ). take j (drop (16 * k) (set A at b))) z ∙ sym (ap (λ (j : ℕ). take j (drop (16 * k) A)) z))
+      ∙ sym (contents-at L A k)
+
+  pub set_changes : Changes (contents L A) (contents L (set A (16 * d.place + i) b)) d (set (bytes_of (contents L A) d) i b)
+  set_changes =
+      let new = contents L (set A (16 * d.place + i) b) in
+      let e : bytes_of new d ≡ set (bytes_of (contents L A) d) i b = bytes-some new d some' ∙ here' ∙ ap (λ (t : List ℕ). set t i b) (sym (bytes-some (contents L A) d some')) in record {
+        live = record { length = l.length ∙ sym (ap length e ∙ length-set (bytes_of (contents L A) d) i b); size = l.size };
+        holds = e;
+        others = λ k out. away' k (out some');
+      }
+
+  pub set_within : 16 * d.place + i < length A
+  set_within = omega (arith, bytes_within L A H live d s l some')
+
+  pub set_sound : IsSound L (set A (16 * d.place + i) b) H live
+  set_sound = record {
+    sized = length-set A (16 * d.place + i) b ∙ s.sized;
+    apart = s.apart;
+    inside = s.inside;
+    unshared = s.unshared;
+    known = s.known;
+    covered = s.covered;
+    counted = s.counted;
+    roomy = s.roomy;
+  }
+
+pub changed_keeps : (old new : List (List ℕ)) (d : Desc) (bytes : List ℕ) → Changes old new d bytes → (e : Desc) → IsLive old e → IsApart e d → Keeps old new e
+changed_keeps old new d bytes c e l apart = record { live = live-kept old new e d c.others apart l; same = bytes-kept old new e d c.others apart }

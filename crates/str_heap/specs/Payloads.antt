@@ -54,6 +54,12 @@ pub record Assigns (old new : List (List ℕ)) (d e : Desc) (bytes : List ℕ) :
   pub gone : 0 < d.length → bytes_at new d.place ≡ []
   pub others : (place : ℕ) → IsElsewhere d place → IsElsewhere e place → bytes_at new place ≡ bytes_at old place
 
+-- a string has other bytes, as many as before, and all others stay
+pub record Changes (old new : List (List ℕ)) (d : Desc) (bytes : List ℕ) : Type 0 where
+  pub live : IsLive new d
+  pub holds : bytes_of new d ≡ bytes
+  pub others : KeepsOthers d old new
+
 -- two descriptors that aren't of one string
 abbrev pub IsApart : Desc → Desc → Type 0
 IsApart d e = 0 < d.length → 0 < e.length → d.place ≢ e.place

@@ -1,7 +1,7 @@
-ghost use Rattle.std.specs.Prelude.{◌≡◌, ◌+◌, ◌*◌, ◌<◌, ◌≤◌, ◌^◌, [], ◌∷◌, ◌++◌, ℕ, true, length, take, drop, replicate, vec_len, vec_capacity, IfOk, OnErr};
+ghost use Rattle.std.specs.Prelude.{◌≡◌, ◌+◌, ◌*◌, ◌<◌, ◌≤◌, ◌^◌, [], ◌∷◌, ◌++◌, ℕ, true, length, take, drop, replicate, slice_set, vec_len, vec_capacity, IfOk, OnErr};
 ghost use Rattle.fb_base.specs.declared.shape.Desc.{Desc};
 ghost use Rattle.str_heap.specs.Blocks.{is_free, fit_at};
-ghost use Rattle.str_heap.specs.Payloads.{IsLive, bytes_of, IsApart, Keeps, Stores, Releases, Assigns, contents};
+ghost use Rattle.str_heap.specs.Payloads.{IsLive, bytes_of, IsApart, Keeps, Stores, Releases, Assigns, Changes, contents};
 ghost use Rattle.str_heap.specs.Sound.{Finds};
 
 use crate::holes::Holes;
@@ -100,6 +100,21 @@ impl Heap {
         part(arena, 16 * d.place as usize, d.length as usize)
     }
 
+    /// Sets a byte of a live descriptor's string, in its place. It takes no memory.
+    pub fn set_byte(&mut self, d: Desc, i: u64, byte: u8)
+        requires live { IsLive self.old d }
+        requires index { i < d.length }
+        ensures changed { Changes self.old self.new d (slice_set (bytes_of self.old d) i byte) }
+        ensures kept { (e : Desc) → IsLive self.old e → IsApart e d → Keeps self.old self.new e }
+    {
+        set_at(&mut self.arena, d.place as usize, i as usize, byte);
+    }
+
+    /// What the heap takes memory from.
+    pub fn allocator(&self) -> Global {
+        *self.arena.allocator()
+    }
+
     /// No two strings overlap: of two live descriptors that begin at different blocks, one lies before the other.
     pub fn strings_are_apart(&self)
         ensures { (d e : Desc) → IsLive self.now d → IsLive self.now e → 0 < d.length → 0 < e.length → d.place < e.place → d.place + d.size ≤ e.place }
@@ -190,6 +205,14 @@ fn part(bytes: &[u8], start: usize, count: usize) -> &[u8]
     ensures { result.now ≡ take count (drop start bytes.now) }
 {
     &bytes[start..start + count]
+}
+
+// Sets a byte of the string that begins at a block.
+fn set_at(arena: &mut Vec<u8>, place: usize, i: usize, byte: u8)
+    requires { 16 * place + i < length arena.old.items }
+    ensures { arena.new.items ≡ slice_set arena.old.items (16 * place + i) byte }
+{
+    arena[16 * place + i] = byte;
 }
 
 // Writes bytes into the arena from a place on.

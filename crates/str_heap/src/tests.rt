@@ -78,3 +78,19 @@ fn a_string_takes_the_place_of_another(rt: HostRuntime) -> Result<(), Fail> {
     heap.strings_are_apart();
     Ok(())
 }
+
+#[test]
+fn a_byte_is_set(rt: HostRuntime) -> Result<(), Fail> {
+    let mut heap = Heap::new(rt.alloc());
+    let a = heap.store(b"one")?;
+    assert!(rt; 1 < a.length);
+    heap.set_byte(a, 1, b'N');
+    let b = heap.store(b"two")?;
+    assert_eq!(rt; heap.bytes(b), b"two".as_slice());
+    let mut other = Heap::new(heap.allocator());
+    let c = other.store(b"one")?;
+    assert!(rt; 1 < c.length);
+    other.set_byte(c, 1, b'N');
+    assert_eq!(rt; other.bytes(c), b"oNe".as_slice());
+    Ok(())
+}
