@@ -1,5 +1,5 @@
 -- What Print writes.
-use Rattle.std.specs.Prelude.{ℕ, ◌+◌, ◌-◌, ◌%◌, ◌^◌, ◌≤◌, ◌==◌, nat_lt, Bool, true, false, if◌then◌else◌, List, [], ◌∷◌, length, replicate, codes, decimal}
+use Rattle.std.specs.Prelude.{ℕ, ◌+◌, ◌-◌, ◌%◌, ◌^◌, ◌≤◌, ◌==◌, nat_lt, true, false, if◌then◌else◌, List, [], ◌∷◌, length, replicate, codes, decimal}
 use Rattle.rt_text.specs.declared.print.Item.{Item}
 use Rattle.rt_text.specs.declared.print.Item.TheVariants.{Signed, Unsigned, Truth, Bytes, Tab, Line}
 
