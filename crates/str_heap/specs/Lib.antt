@@ -1,0 +1,3 @@
+pub mod Blocks
+pub mod Payloads
+pub mod Sound
