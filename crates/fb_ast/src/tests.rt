@@ -6,6 +6,7 @@ use std::test::Fail;
 use word64::Kind;
 
 const FIRST: Span = Span { line: 3, col: 7 };
+
 const OTHER: Span = Span { line: 4, col: 1 };
 
 #[test]
