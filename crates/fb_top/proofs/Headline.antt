@@ -1,6 +1,7 @@
 -- The run of a text's code is the run of its statements.
-use Rattle.std.proofs.Common.{◌≡◌, ℕ, List, Option, subst, arith}
+use Rattle.std.proofs.Common.{◌≡◌, ℕ, inr, List, Option, subst, arith}
 use Rattle.fb_base.specs.declared.ending.Ending.{Ending}
+use Rattle.fb_base.specs.declared.ending.Ending.TheVariants as endings
 use Rattle.fb_image.specs.declared.image.ImageParts.{ImageParts}
 use Rattle.thread_system.specs.Simulation.{Simulates}
 use Rattle.thread_system.proofs.Through.{Through, simulates_through}
@@ -20,7 +21,8 @@ use Rattle.rv_select.specs.Image.{parts_of}
 use Rattle.rv_select.specs.Laws.{Carries}
 use Rattle.rv_select.proofs.Images.{first_states, steps_kept}
 use Rattle.main_run.specs.Solo.{main_machine, main_cpu, SoloEndsAs}
-use Rattle.fb_top.specs.Answers.{StatementsEndAs, turn_limit, entry_limit}
+use Rattle.fb_top.specs.Answers.{StatementsEndAs, TextEndsAs, turn_limit, entry_limit}
+use Rattle.fb_top.specs.Compiling.{IsCompiled}
 use Rattle.fb_top.proofs.Source.{Answers, solo_answers}
 use Rattle.fb_top.proofs.Lowered.{is_mid_program}
 
@@ -43,3 +45,27 @@ pub statements_end : (text : List ℕ) (p : Program) → IsProgram text p → Fi
     → SoloEndsAs (machine_step (main_machine (parts_of (lowered p)))) turn_limit (main_cpu (parts_of (lowered p))) entry_limit old new faults later schedule ending → StatementsEndAs text old new faults later schedule ending
 statements_end text p is fits old new faults later schedule ending e =
     record { program = p; is = is; ends = solo_answers step (machine_step (main_machine (parts_of (lowered p)))) turn_limit (first_of p) (main_cpu (parts_of (lowered p))) (code_answers text p is fits) entry_limit old new faults later schedule ending e }
+
+-- the run of an image
+abbrev ImageEndsAs : ImageParts → Option (List ℕ) → Option (List ℕ) → ℕ → ℕ → List ℕ → Ending → Type 0
+ImageEndsAs image old new faults later schedule ending = SoloEndsAs (machine_step (main_machine image)) turn_limit (main_cpu image) entry_limit old new faults later schedule ending
+
+compiled_end : (text : List ℕ) (image : ImageParts) → IsCompiled text image → (old new : Option (List ℕ)) (faults later : ℕ) (schedule : List ℕ) (ending : Ending)
+    → ImageEndsAs image old new faults later schedule ending → StatementsEndAs text old new faults later schedule ending
+compiled_end text image c old new faults later schedule ending e =
+    statements_end text c.program c.is c.fits old new faults later schedule ending (subst (λ parts. ImageEndsAs parts old new faults later schedule ending) c.image_is e)
+
+-- A text that was compiled ends as the table of answers says.
+pub text_ends : (text : List ℕ) (image : ImageParts) → IsCompiled text image → (old new : Option (List ℕ)) (faults later : ℕ) (schedule : List ℕ) (ending : Ending)
+    → SoloEndsAs (machine_step (main_machine image)) turn_limit (main_cpu image) entry_limit old new faults later schedule ending → TextEndsAs text old new faults later schedule ending
+text_ends text image c old new faults later schedule (endings.Ended status) e = compiled_end text image c old new faults later schedule (endings.Ended status) e
+text_ends text image c old new faults later schedule (endings.Trapped kind line thread) e = compiled_end text image c old new faults later schedule (endings.Trapped kind line thread) e
+text_ends text image c old new faults later schedule (endings.TurnsSpent thread line) e = compiled_end text image c old new faults later schedule (endings.TurnsSpent thread line) e
+text_ends text image c old new faults later schedule (endings.EntriesSpent limit) e = compiled_end text image c old new faults later schedule (endings.EntriesSpent limit) e
+text_ends text image c old new faults later schedule (endings.WriteFault sink) e = compiled_end text image c old new faults later schedule (endings.WriteFault sink) e
+text_ends text image c old new faults later schedule endings.NoMemory e = inr (compiled_end text image c old new faults later schedule endings.NoMemory e)
+text_ends text image c old new faults later schedule (endings.Usage why) e = elim e [ ]
+text_ends text image c old new faults later schedule (endings.NoFile name) e = elim e [ ]
+text_ends text image c old new faults later schedule (endings.TooLong name) e = elim e [ ]
+text_ends text image c old new faults later schedule endings.StoreFault e = elim e [ ]
+text_ends text image c old new faults later schedule (endings.Refused fault) e = elim e [ ]
