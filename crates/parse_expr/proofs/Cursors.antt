@@ -16,12 +16,15 @@ pub first_none : (ts : List Token) (i : ℕ) → length ts ≤ i → first (drop
 unfolding first
 first_none ts i none = ap first (drop_all i ts none)
 
-pub next_some : (i : ℕ) (ts : List Token) → next (drop i ts) ≡ drop (i + 1) ts
+next_suc : (i : ℕ) (ts : List Token) → next (drop i ts) ≡ drop (suc i) ts
 unfolding next
-next_some zero [] = refl
-next_some zero (t ∷ ts) = refl
-next_some (suc i) [] = refl
-next_some (suc i) (t ∷ ts) = next_some i ts
+next_suc zero [] = refl
+next_suc zero (t ∷ ts) = refl
+next_suc (suc i) [] = refl
+next_suc (suc i) (t ∷ ts) = next_suc i ts
+
+pub next_some : (i : ℕ) (ts : List Token) → next (drop i ts) ≡ drop (i + 1) ts
+next_some i ts = rw add-one (next_suc i ts)
 
 pub next_none : (ts : List Token) (i : ℕ) → length ts ≤ i → next (drop i ts) ≡ drop i ts
 unfolding next

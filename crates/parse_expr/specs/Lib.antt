@@ -4,3 +4,4 @@ pub mod Types
 pub mod Rows
 pub mod Expr
 pub mod Nests
+pub mod Grammar

@@ -342,6 +342,75 @@ impl<F: Fn(Global, &mut Cursor<'_>, usize, u8) -> Result<(Expr, usize), Stop>> G
         }
     }
 
+    // The arguments of what is called or indexed with parentheses, behind the opening one.
+    fn call(&self, cursor: &mut Cursor<'_>, left: Expr, depth: usize) -> Result<(Expr, usize), Stop>
+        requires nests { Nests self.now.room (F.pre self.now.inner) (F.post self.now.inner) }
+        requires deep { depth ≤ self.now.room }
+        ensures reads { Reads (spec.read_row (spec.expr self.now.room) self.now.room depth (rows.call_row left) cursor.old) result cursor.new }
+        ensures within { IfOk result (λ x. x.1 ≤ self.now.room + 1) }
+    {
+        let at = left.at();
+        let (all, deepest) = self.arguments(cursor, depth)?;
+        let left = Boxed::new(self.alloc, left)?;
+        Ok((Expr::Call(at, left, all), deepest + 1))
+    }
+
+    // An index and its closing bracket.
+    fn index(
+        &self,
+        cursor: &mut Cursor<'_>,
+        left: Expr,
+        depth: usize,
+    ) -> Result<(Expr, usize), Stop>
+        requires nests { Nests self.now.room (F.pre self.now.inner) (F.post self.now.inner) }
+        requires deep { depth ≤ self.now.room }
+        ensures reads { Reads (spec.read_row (spec.expr self.now.room) self.now.room depth (rows.index_row left) cursor.old) result cursor.new }
+        ensures within { IfOk result (λ x. x.1 ≤ self.now.room + 1) }
+    {
+        let at = left.at();
+        let (index, deepest) = self.part(cursor, depth)?;
+        cursor.expect(Mark::CloseBracket)?;
+        let left = Boxed::new(self.alloc, left)?;
+        let index = Boxed::new(self.alloc, index)?;
+        Ok((Expr::Index(at, left, index), deepest + 1))
+    }
+
+    // The name of a member.
+    fn field(
+        &self,
+        cursor: &mut Cursor<'_>,
+        left: Expr,
+        depth: usize,
+    ) -> Result<(Expr, usize), Stop>
+        requires nests { Nests self.now.room (F.pre self.now.inner) (F.post self.now.inner) }
+        requires deep { depth ≤ self.now.room }
+        ensures reads { Reads (spec.read_row (spec.expr self.now.room) self.now.room depth (rows.field_row left) cursor.old) result cursor.new }
+        ensures within { IfOk result (λ x. x.1 ≤ self.now.room + 1) }
+    {
+        let at = left.at();
+        let name = name(self.alloc, cursor)?;
+        let left = Boxed::new(self.alloc, left)?;
+        Ok((Expr::Field(at, left, name), depth + 1))
+    }
+
+    // The name of a member of what a pointer points to.
+    fn arrow(
+        &self,
+        cursor: &mut Cursor<'_>,
+        left: Expr,
+        depth: usize,
+    ) -> Result<(Expr, usize), Stop>
+        requires nests { Nests self.now.room (F.pre self.now.inner) (F.post self.now.inner) }
+        requires deep { depth ≤ self.now.room }
+        ensures reads { Reads (spec.read_row (spec.expr self.now.room) self.now.room depth (rows.arrow_row left) cursor.old) result cursor.new }
+        ensures within { IfOk result (λ x. x.1 ≤ self.now.room + 1) }
+    {
+        let at = left.at();
+        let name = name(self.alloc, cursor)?;
+        let left = Boxed::new(self.alloc, left)?;
+        Ok((Expr::Arrow(at, left, name), depth + 1))
+    }
+
     // What goes on with an expression, behind its mark.
     fn behind(
         &self,
@@ -355,38 +424,11 @@ impl<F: Fn(Global, &mut Cursor<'_>, usize, u8) -> Result<(Expr, usize), Stop>> G
         ensures reads { Reads (spec.read_row (spec.expr self.now.room) self.now.room depth (rows.suffix_row left suffix) cursor.old) result cursor.new }
         ensures within { IfOk result (λ x. x.1 ≤ self.now.room + 1) }
     {
-        let at = left.at();
         match suffix {
-            Suffix::Call => {
-                let (all, deepest) = self.arguments(cursor, depth)?;
-                Ok((
-                    Expr::Call(at, Boxed::new(self.alloc, left)?, all),
-                    deepest + 1,
-                ))
-            }
-            Suffix::Index => {
-                let (index, deepest) = self.part(cursor, depth)?;
-                cursor.expect(Mark::CloseBracket)?;
-                let left = Boxed::new(self.alloc, left)?;
-                Ok((
-                    Expr::Index(at, left, Boxed::new(self.alloc, index)?),
-                    deepest + 1,
-                ))
-            }
-            Suffix::Field => {
-                let name = name(self.alloc, cursor)?;
-                Ok((
-                    Expr::Field(at, Boxed::new(self.alloc, left)?, name),
-                    depth + 1,
-                ))
-            }
-            Suffix::Arrow => {
-                let name = name(self.alloc, cursor)?;
-                Ok((
-                    Expr::Arrow(at, Boxed::new(self.alloc, left)?, name),
-                    depth + 1,
-                ))
-            }
+            Suffix::Call => self.call(cursor, left, depth),
+            Suffix::Index => self.index(cursor, left, depth),
+            Suffix::Field => self.field(cursor, left, depth),
+            Suffix::Arrow => self.arrow(cursor, left, depth),
         }
     }
 

@@ -4,12 +4,14 @@
 mod cursor;
 mod grammar;
 mod kinds;
+mod laws;
 mod reading;
 mod stop;
 mod types;
 
 pub use cursor::Cursor;
 pub use grammar::expr_in;
+pub use laws::{one_tree, trees_found, trees_read};
 pub use reading::{error_of, expr};
 pub use stop::{ParseErr, Stop};
 pub use types::{name, type_name};

@@ -30,17 +30,16 @@ fn sees_pointer(cursor: &Cursor<'_>) -> bool
 }
 
 // How often Ptr or Pointer comes next, each of which is taken.
-
+#[tactic(auto, using(crate::proofs::Pointers::one_behind, crate::proofs::Pointers::one_shorter, crate::proofs::Pointers::none_behind, crate::proofs::Pointers::count_pointers))]
 fn pointers(cursor: &mut Cursor<'_>) -> usize
     ensures count { result ≡ spec.pointers cursor.old }
     ensures behind { cursor.new ≡ spec.behind_pointers cursor.old }
 {
-    let mut count = 0;
+    let before = cursor.left();
     while sees_pointer(cursor) {
         cursor.take();
-        count += 1;
     }
-    count
+    before - cursor.left()
 }
 
 // What a type begins with, if one begins with a token of this kind.
