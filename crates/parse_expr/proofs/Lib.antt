@@ -12,3 +12,4 @@ pub mod Passes
 pub mod Complete
 pub mod Unique
 pub mod Local
+pub mod Firsts

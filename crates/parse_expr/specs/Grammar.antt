@@ -1,5 +1,6 @@
 -- The grammar of expressions: which tokens are which tree, and how deep it is.
 use Rattle.std.specs.Prelude.{◌≡◌, ◌≤◌, ◌<◌, ℕ, ◌+◌, max, Bool, true, false, List, [], ◌∷◌, ◌++◌, length, take, drop, Option, Some, None, ⊤}
+use Rattle.fb_base.specs.declared.fault.Span.{Span}
 use Rattle.fb_lexer.specs.declared.token.Token.{Token}
 use Rattle.fb_lexer.specs.declared.token.TokenKind.{TokenKind}
 use Rattle.fb_lexer.specs.declared.token.TokenKind.TheVariants as kinds
@@ -18,7 +19,7 @@ use Rattle.parse_expr.specs.declared.kinds.Suffix.{Suffix}
 use Rattle.parse_expr.specs.declared.kinds.Suffix.TheVariants as suffixes
 use Rattle.parse_expr.specs.Words.{prefix_of, binary_of, suffix_of, base_of, is_pointer}
 use Rattle.parse_expr.specs.Reading.{first, holds}
-use Rattle.parse_expr.specs.Expr.{suffix_at, operator_at}
+use Rattle.parse_expr.specs.Expr.{suffix_at, operator_at, fault_place}
 use Rattle.parse_expr.specs.Rows.{Row, gives, mark, typed, named, part, arguments, choice, Start, Leaf, Inner, Nothing, start_of, suffix_row}
 
 -- ---- types
@@ -141,3 +142,13 @@ pub record Stands (tokens : List Token) (at end : ℕ) (tree : Expr) : Type 0 wh
 -- Nothing that comes next goes on with an expression, or with a type that it ends with.
 abbrev pub EndsBefore : List Token → Type 0
 EndsBefore rest = (suffix_at (first rest) ≡ None) × (operator_at 1 (first rest) ≡ None) × (holds is_pointer (first rest) ≡ false)
+
+-- Tokens with which no expression agrees from a place on: the front may agree with one, but none agrees with the next
+-- token too, and where there is none the front is no expression. The fault stands at that token, or at the last one.
+pub record EndsAt (tokens : List Token) (at : ℕ) (place : Span) : Type 0 where
+  pub front : List Token
+  pub rest : List Token
+  pub is : drop at tokens ≡ front ++ rest
+  pub place_is : place ≡ fault_place tokens rest
+  pub none : (t : Token) (behind : List Token) → rest ≡ t ∷ behind → Begins (front ++ t ∷ []) → ⊥
+  pub short : (tree : Expr) → rest ≡ [] → IsExpression front tree → ⊥

@@ -1,9 +1,11 @@
 //! What the reading of expressions has to do with their grammar.
-ghost use Rattle.std.specs.Prelude.{◌≡◌, ◌≤◌, ◌+◌, ◌++◌, ℕ, List, Ok, length, drop};
+ghost use Rattle.std.specs.Prelude.{◌≡◌, ◌≤◌, ◌+◌, ◌++◌, ℕ, List, Ok, Err, length, drop};
 ghost use Rattle.fb_lexer.specs.declared.token.Token.{Token};
+ghost use Rattle.fb_base.specs.declared.fault.Fault.{Fault};
 ghost use Rattle.fb_ast.specs.declared.expr.Expr.{Expr};
+ghost use Rattle.parse_expr.specs.declared.stop.ParseErr.TheVariants as errors;
 ghost use Rattle.parse_expr.specs.Expr.{expr_at};
-ghost use Rattle.parse_expr.specs.Grammar.{EndsBefore, IsExpression, Stands};
+ghost use Rattle.parse_expr.specs.Grammar.{EndsAt, EndsBefore, IsExpression, Stands};
 
 /// What is read from a place on is an expression by the grammar, at most 200 deep, and stands there.
 pub fn trees_read()
@@ -18,4 +20,15 @@ pub fn trees_found()
 /// Tokens are one expression at most.
 pub fn one_tree()
     ensures { (ts : List Token) (one other : Expr) → IsExpression ts one → IsExpression ts other → one ≡ other }
+{}
+
+/// No expression at most 200 deep that stands at a place is longer than the one that is read from there.
+pub fn longest_tree()
+    ensures { (tokens : List Token) (at end other : ℕ) (tree another : Expr) → at ≤ length tokens → expr_at tokens at ≡ Ok (tree, end) → Stands tokens at other another → other ≤ end }
+{}
+
+/// A fault stands no later than at the first token up to which no expression at most 200 deep agrees with the tokens,
+/// or at the last token where they end too early.
+pub fn first_fault()
+    ensures { (tokens : List Token) (at : ℕ) (fault : Fault) → expr_at tokens at ≡ Err (errors.Fault fault) → EndsAt tokens at fault.at }
 {}
