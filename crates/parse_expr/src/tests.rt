@@ -2,7 +2,6 @@ use super::*;
 use fb_ast::{Base, Expr, TypeName};
 use fb_base::{Fault, FaultKind, Span};
 use fb_lexer::{Tokens, lex};
-use sqlite_items::Items;
 use std::alloc::{AllocError, Global};
 use std::test::Fail;
 
@@ -19,9 +18,10 @@ fn show_type(alloc: Global, ty: &TypeName) -> Result<String, AllocError> {
     }
 }
 
-fn show_all(alloc: Global, all: &Items<Expr>) -> Result<String, AllocError> {
+#[cycle(shown)]
+fn show_all(alloc: Global, all: &[Expr]) -> Result<String, AllocError> {
     let mut shown = String::new(alloc);
-    for e in all.as_slice() {
+    for e in all {
         let one = show(alloc, e)?;
         shown.push_str(" ")?;
         shown.push_str(one.as_str())?;
@@ -30,6 +30,7 @@ fn show_all(alloc: Global, all: &Items<Expr>) -> Result<String, AllocError> {
 }
 
 // A tree with each part in parentheses.
+#[cycle(shown)]
 fn show(alloc: Global, e: &Expr) -> Result<String, AllocError> {
     match e {
         Expr::Number(_, value) => format!(in alloc; "{value}"),
@@ -54,7 +55,7 @@ fn show(alloc: Global, e: &Expr) -> Result<String, AllocError> {
         }
         Expr::NewWith(_, ty, all) => {
             let ty = show_type(alloc, ty)?;
-            let all = show_all(alloc, all)?;
+            let all = show_all(alloc, all.as_slice())?;
             format!(in alloc; "(new-with {ty}{all})")
         }
         Expr::NewArray(_, ty, a) => {
@@ -83,12 +84,12 @@ fn show(alloc: Global, e: &Expr) -> Result<String, AllocError> {
             format!(in alloc; "(iif {a} {b} {c})")
         }
         Expr::CallWord(_, word, all) => {
-            let all = show_all(alloc, all)?;
+            let all = show_all(alloc, all.as_slice())?;
             format!(in alloc; "({word:?}{all})")
         }
         Expr::Call(_, a, all) => {
             let a = show(alloc, a.get())?;
-            let all = show_all(alloc, all)?;
+            let all = show_all(alloc, all.as_slice())?;
             format!(in alloc; "(call {a}{all})")
         }
         Expr::Index(_, a, b) => {
