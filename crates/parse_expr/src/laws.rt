@@ -27,8 +27,8 @@ pub fn longest_tree()
     ensures { (tokens : List Token) (at end other : ℕ) (tree another : Expr) → at ≤ length tokens → expr_at tokens at ≡ Ok (tree, end) → Stands tokens at other another → other ≤ end }
 {}
 
-/// A fault stands no later than at the first token up to which no expression at most 200 deep agrees with the tokens,
-/// or at the last token where they end too early.
-pub fn first_fault()
+/// No expression at most 200 deep agrees with the tokens up to and with the one at which a fault stands, and where they
+/// end too early they are no expression: a fault is never told too early.
+pub fn no_early_fault()
     ensures { (tokens : List Token) (at : ℕ) (fault : Fault) → expr_at tokens at ≡ Err (errors.Fault fault) → EndsAt tokens at fault.at }
 {}

@@ -11,7 +11,7 @@ mod types;
 
 pub use cursor::Cursor;
 pub use grammar::expr_in;
-pub use laws::{first_fault, longest_tree, one_tree, trees_found, trees_read};
+pub use laws::{longest_tree, no_early_fault, one_tree, trees_found, trees_read};
 pub use reading::{error_of, expr};
 pub use stop::{ParseErr, Stop};
 pub use types::{name, type_name};
