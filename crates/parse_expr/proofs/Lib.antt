@@ -1,0 +1,15 @@
+pub mod Cursors
+pub mod Pointers
+pub mod Turns
+pub mod Sound
+pub mod Levels
+pub mod Loops
+pub mod Climbs
+pub mod Answered
+pub mod Turned
+pub mod Depths
+pub mod Passes
+pub mod Complete
+pub mod Unique
+pub mod Local
+pub mod Firsts

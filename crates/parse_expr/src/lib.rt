@@ -1,0 +1,20 @@
+//! The expressions of FreeBASIC text: the grammar, and the longest expression from a place on as its tree.
+#![tactic(auto)]
+
+mod cursor;
+mod grammar;
+mod kinds;
+mod laws;
+mod reading;
+mod stop;
+mod types;
+
+pub use cursor::Cursor;
+pub use grammar::expr_in;
+pub use laws::{longest_tree, no_early_fault, one_tree, trees_found, trees_read};
+pub use reading::{error_of, expr};
+pub use stop::{ParseErr, Stop};
+pub use types::{name, type_name};
+
+#[cfg(test)]
+mod tests;
