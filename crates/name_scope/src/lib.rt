@@ -1,0 +1,11 @@
+//! Names in scopes: what a name stands for in the innermost scope that has it.
+#![tactic(auto)]
+
+mod names;
+mod scopes;
+mod sym;
+#[cfg(test)]
+mod tests;
+
+pub use scopes::Scopes;
+pub use sym::{AddErr, Sym};
