@@ -12,7 +12,7 @@ use Rattle.name_scope.specs.declared.names.Seen.{Seen}
 use Rattle.name_scope.specs.declared.scopes.Step.{Step}
 use Rattle.name_scope.specs.declared.scopes.Step.TheVariants.{Entered, Added}
 use Rattle.name_scope.specs.Scopes.{Scope, in_scope, or_else, innermost, first_scope, outer_scopes, with_name}
-use Rattle.name_scope.specs.Kept.{held, seen_first, seen, is_of, piled, pile_of, scopes_of, IsAdded, AreSteps, IsKept}
+use Rattle.name_scope.specs.Kept.{held, seen_first, seen, is_of, piled, pile_of, scopes_of, IsKept}
 
 piled_last : (front : List Step) (last : Step) (below : List Step) → piled (front ++ last ∷ []) below ≡ last ∷ piled front below
 piled_last [] last below = refl

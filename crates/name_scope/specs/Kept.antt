@@ -8,7 +8,7 @@ use Rattle.name_scope.specs.declared.sym.Sym.{Sym}
 use Rattle.name_scope.specs.declared.names.Seen.{Seen}
 use Rattle.name_scope.specs.declared.scopes.Step.{Step}
 use Rattle.name_scope.specs.declared.scopes.Step.TheVariants.{Entered, Added}
-use Rattle.name_scope.specs.Scopes.{Scope, in_scope, first_scope, with_name}
+use Rattle.name_scope.specs.Scopes.{Scope, in_scope, with_name}
 
 -- what a table of names has for a name
 abbrev pub held : BTreeMap (Vec ℕ Global) Seen → List ℕ → Option Seen

@@ -1,4 +1,4 @@
-use Rattle.std.proofs.Common.{◌≡◌, ◌+◌, [], ◌∷◌, ◌++◌, sym, subst, ◌∙◌, ap, arith}
+use Rattle.std.proofs.Common.{◌≡◌, ◌+◌, [], ◌∷◌, sym, subst, ◌∙◌, ap, arith}
 use Rattle.name_scope.specs.declared.scopes.Step.TheVariants.{Entered}
 use Rattle.name_scope.specs.Kept.{IsKept, pile_of, scopes_of}
 use Rattle.name_scope.proofs.Steps.{pile_last, kept_entered, depth_low}

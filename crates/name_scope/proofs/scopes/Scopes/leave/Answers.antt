@@ -1,4 +1,4 @@
-use Rattle.std.proofs.Common.{◌≡◌, [], ◌∷◌, ◌++◌, sym, subst, ◌∙◌, ap}
+use Rattle.std.proofs.Common.{◌≡◌, ◌∷◌, sym, subst, ◌∙◌, ap}
 use Rattle.name_scope.specs.declared.scopes.Step.TheVariants.{Entered, Added}
 use Rattle.name_scope.specs.Scopes.{outer_scopes}
 use Rattle.name_scope.specs.Kept.{IsKept, pile_of, scopes_of}
