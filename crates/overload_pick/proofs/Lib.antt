@@ -1,0 +1,4 @@
+pub mod Leads
+pub mod Pointers
+pub mod Same
+pub mod Sums

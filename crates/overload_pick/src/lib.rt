@@ -1,0 +1,14 @@
+//! The choice among the procedures of one name: the candidate to which the arguments convert at the least cost.
+#![tactic(auto)]
+
+mod answer;
+mod choosing;
+mod cost;
+pub mod laws;
+mod sig;
+#[cfg(test)]
+mod tests;
+
+pub use answer::Pick;
+pub use choosing::pick;
+pub use sig::{Arg, Param, Sig};
