@@ -28,17 +28,19 @@ use Rattle.parse_expr.proofs.Twins.{Place, same_place, cut_place, other_place, N
 
 -- ---- what a reading at a fault says of another one
 
-clash : (L : FaultKind → Type 0) (t : Token) (s v : List Token) (place : Place L t v) (kind : FaultKind) (other : Outcome Measured) (x : Measured)
-    → Near L t s v place {A = Measured} (Err (stops.Fault kind, t ∷ s)) other → (L kind → ⊥) → other ≡ Ok (x, []) → ⊥
+-- a fault of no such kind at the place, where the second reading ends at the end of its tokens
+pub clash : {A : Type 0} (L : FaultKind → Type 0) (t : Token) (s v : List Token) (place : Place L t v) (kind : FaultKind) (other : Outcome A) (x : A)
+    → Near L t s v place {A = A} (Err (stops.Fault kind, t ∷ s)) other → (L kind → ⊥) → other ≡ Ok (x, []) → ⊥
 clash L t s v place kind other x (inl (inl small)) never is = absurd (omega arith)
 clash L t s v place kind other x (inl (inr loose)) never is = never loose
-clash L t s v place kind other x (inr l) never is = let both : ◌≡◌ {A = Outcome Measured} (Err (l.0, l.1)) (Ok (x, [])) = sym l.2 ∙ is in cc
+clash {A = A} L t s v place kind other x (inr l) never is = let both : ◌≡◌ {A = Outcome A} (Err (l.0, l.1)) (Ok (x, [])) = sym l.2 ∙ is in cc
 
-goes_further : (L : FaultKind → Type 0) (t : Token) (s v : List Token) (place : Place L t v) (other : Outcome Measured) (x y : Measured) → (v ≡ [] → ⊥)
-    → Near L t s v place {A = Measured} (Ok (y, t ∷ s)) other → other ≡ Ok (x, []) → ⊥
+-- a reading that ends before the place's token, where the second one ends at the end of its tokens
+pub goes_further : {A : Type 0} (L : FaultKind → Type 0) (t : Token) (s v : List Token) (place : Place L t v) (other : Outcome A) (x y : A) → (v ≡ [] → ⊥)
+    → Near L t s v place {A = A} (Ok (y, t ∷ s)) other → other ≡ Ok (x, []) → ⊥
 goes_further L t s v place other x y some (inl small) is = absurd (omega arith)
-goes_further L t s v place other x y some (inr l) is =
-    let both : ◌≡◌ {A = Outcome Measured} (Ok (y, l.0)) (Ok (x, [])) = sym l.1 ∙ is in
+goes_further {A = A} L t s v place other x y some (inr l) is =
+    let both : ◌≡◌ {A = Outcome A} (Ok (y, l.0)) (Ok (x, [])) = sym l.1 ∙ is in
     none_alike L t s v place (t ∷ s) l.0 (ap left both) some l.2
 
 -- an expression is read at a depth that is enough
@@ -190,7 +192,7 @@ equal_by a b false true p q below above = absurd (above (lt_is b a q))
 equal_by a b false false p q below above = let m = lt_not a b p in let n = lt_not b a q in omega arith
 
 -- two fronts of one list of which neither is longer
-meet : (f g r q : List Token) → f ++ r ≡ g ++ q → (length f < length g → ⊥) → (length g < length f → ⊥) → SameSplit f g r q
+pub meet : (f g r q : List Token) → f ++ r ≡ g ++ q → (length f < length g → ⊥) → (length g < length f → ⊥) → SameSplit f g r q
 meet f g r q is below above = same_split f g r q is (equal_by (length f) (length g) (nat_lt (length f) (length g)) (nat_lt (length g) (length f)) refl refl below above)
 
 begins_less : (front : List Token) (t : Token) (behind : List Token) → Begins (front ++ t ∷ behind) → Begins (front ++ t ∷ [])
