@@ -1,5 +1,5 @@
 -- The answer of a reading, against the grammar.
-use Rattle.std.proofs.Common.{◌≡◌, ◌≤◌, ℕ, ◌+◌, ◌-◌, List, [], ◌∷◌, ◌++◌, length, drop, Result, Ok, Err, refl, sym, ap, ◌∙◌, subst, arith, length-append, length-drop}
+use Rattle.std.proofs.Common.{◌≡◌, ◌≤◌, ℕ, ◌+◌, ◌-◌, List, length, drop, Result, Ok, Err, ap, ◌∙◌, subst, arith, length-append, length-drop}
 use Rattle.fb_lexer.specs.declared.token.Token.{Token}
 use Rattle.fb_ast.specs.declared.expr.Expr.{Expr}
 use Rattle.parse_expr.specs.declared.stop.ParseErr.{ParseErr}

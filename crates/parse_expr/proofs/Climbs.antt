@@ -1,5 +1,5 @@
 -- Suffixes, operators and whole expressions are read as the grammar says.
-use Rattle.std.proofs.Common.{◌≡◌, ◌≤◌, ◌<◌, ℕ, zero, suc, ◌+◌, ◌==◌, max, nat_lt, Bool, true, false, if◌then◌else◌, List, [], ◌∷◌, ◌++◌, length, Option, Some, None, Result, Ok, Err, refl, sym, ap, ◌∙◌, subst, arith, tests, rules, append_assoc, length-append}
+use Rattle.std.proofs.Common.{◌≡◌, ◌≤◌, ◌<◌, ℕ, zero, suc, ◌+◌, ◌==◌, max, nat_lt, true, false, List, [], ◌∷◌, ◌++◌, length, Option, Some, None, Ok, Err, refl, sym, ap, ◌∙◌, subst, arith, rules, length-append}
 use Rattle.fb_base.specs.declared.fault.Span.{Span}
 use Rattle.fb_lexer.specs.declared.token.Token.{Token}
 use Rattle.fb_lexer.specs.declared.token.TokenKind.{TokenKind}
@@ -12,22 +12,20 @@ use Rattle.fb_ast.specs.declared.expr.Expr.TheVariants as e
 use Rattle.fb_ast.specs.declared.ty.TypeName.{TypeName}
 use Rattle.fb_ast.specs.declared.part.Name.{Name}
 use Rattle.fb_ast.specs.declared.operator.Unary.{Unary}
-use Rattle.fb_ast.specs.declared.operator.Binary.{Binary}
-use Rattle.fb_ast.specs.declared.operator.CallWord.{CallWord}
 use Rattle.fb_ast.specs.Places.{place_of}
 use Rattle.parse_expr.specs.declared.kinds.Operator.{Operator}
 use Rattle.parse_expr.specs.declared.kinds.Suffix.{Suffix}
 use Rattle.parse_expr.specs.declared.kinds.Suffix.TheVariants as suffix_kinds
 use Rattle.parse_expr.specs.declared.kinds.OperandWord.{OperandWord}
 use Rattle.parse_expr.specs.declared.kinds.OperandWord.TheVariants as begins_word
-use Rattle.parse_expr.specs.Words.{suffix_of, suffix_mark, prefix_of, binary_of, operand_word}
-use Rattle.parse_expr.specs.Reading.{first, next, same_mark, is_mark, sees, expect, Outcome, Reader, and_then}
+use Rattle.parse_expr.specs.Words.{suffix_of, suffix_mark, prefix_of, operand_word}
+use Rattle.parse_expr.specs.Reading.{first, next, same_mark, is_mark, sees, expect, Outcome, Reader}
 use Rattle.parse_expr.specs.Types.{type_name, name}
-use Rattle.parse_expr.specs.Rows.{Row, gives, mark, typed, named, part, arguments, choice, Start, Leaf, Inner, Nothing, start_of, word_start, mark_start, suffix_row, new_row, new_with_row, new_array_row}
-use Rattle.parse_expr.specs.Expr.{Measured, expr, part_in, arguments_in, read_row, opens, started, primary, suffix_at, suffix_by, suffixed, suffixes_from, suffixes, prefixed, operand, operand_by, operand_at, operated, climb_by, climb_from, climb, level, no_room, operator_at, begins}
-use Rattle.parse_expr.specs.Grammar.{row_of, may_follow, may_follow_new, Piece, Expression, Behind, Arguments, Is, primary as a_primary, suffix as a_suffix, prefix as a_prefix, binary as a_binary}
-use Rattle.parse_expr.proofs.Sound.{Done, bind, by_test, map_done, joined, both, Splits, IsRead, Right, RowRead, row_sound, part_sound, ArgumentsOrNone}
-use Rattle.parse_expr.proofs.Levels.{lower, small, prefix_small, coming, AtMost, always, lt_is, lt_not, ends_below, Comes, comes}
+use Rattle.parse_expr.specs.Rows.{Row, gives, mark, typed, named, part, arguments, choice, Start, Leaf, Inner, Nothing, start_of, word_start, mark_start, suffix_row}
+use Rattle.parse_expr.specs.Expr.{Measured, expr, part_in, arguments_in, read_row, opens, started, primary, suffix_at, suffix_by, suffixed, suffixes_from, suffixes, prefixed, operand, operand_by, operated, climb_by, climb_from, climb, level, no_room, operator_at, begins}
+use Rattle.parse_expr.specs.Grammar.{row_of, may_follow, may_follow_new, Expression, Is, primary as a_primary, suffix as a_suffix, prefix as a_prefix, binary as a_binary}
+use Rattle.parse_expr.proofs.Sound.{Done, bind, by_test, map_done, joined, IsRead, Right, RowRead, row_sound}
+use Rattle.parse_expr.proofs.Levels.{lower, small, prefix_small, AtMost, always, lt_not, ends_below, Comes, comes}
 
 -- ---- what may follow a tree
 
@@ -210,11 +208,11 @@ module _ (room : ℕ) (right : Right room) where
       by_test P (room == 0) _ _ (λ none_left. tt) (λ some. row_begins t ts row none (ap row_of begins) l)
   started_sound t ts Nothing none begins l = tt
 
-  primary_sound : (t : Token) (ts : List Token) → prefix_of t.kind ≡ None → Done (OperandRead room (t ∷ ts)) (primary (expr room) room t (t ∷ ts))
+  pub primary_sound : (t : Token) (ts : List Token) → prefix_of t.kind ≡ None → Done (OperandRead room (t ∷ ts)) (primary (expr room) room t (t ∷ ts))
   unfolding primary
   primary_sound t ts none = started_sound t ts (start_of t.at t.kind) none refl (start_lasts t.at t.kind)
 
-  suffixed_sound : (x : Measured) (kind : Suffix) (all ts : List Token) → OperandRead room all x ts → suffix_at (first ts) ≡ Some kind → Done (OperandRead room all) (suffixed (expr room) room x kind ts)
+  pub suffixed_sound : (x : Measured) (kind : Suffix) (all ts : List Token) → OperandRead room all x ts → suffix_at (first ts) ≡ Some kind → Done (OperandRead room all) (suffixed (expr room) room x kind ts)
   suffixed_sound x kind all ts r at =
       let P : Reader Measured → Type 0 = λ p. Done (OperandRead room all) (p ts) in
       by_test P (nat_lt room x.1) _ _ (λ is. tt)
@@ -241,7 +239,7 @@ module _ (room : ℕ) (right : Right room) where
 
   -- ---- operators
 
-  operated_sound : (x : Measured) (operator : Operator) (all ts : List Token) (m least : ℕ) → LeftRead room m all x ts → Comes least operator ts
+  pub operated_sound : (x : Measured) (operator : Operator) (all ts : List Token) (m least : ℕ) → LeftRead room m all x ts → Comes least operator ts
       → Done (λ y rest. LeftRead room operator.level all y rest × (length rest < length ts)) (operated (expr room) room x operator ts)
   unfolding operated
   operated_sound x operator all ts m least l c =
@@ -269,7 +267,7 @@ module _ (room : ℕ) (right : Right room) where
 
   -- ---- operands with the operators before them
 
-  abbrev Operand : ℕ → List Token → Measured → List Token → Type 0
+  abbrev pub Operand : ℕ → List Token → Measured → List Token → Type 0
   Operand least ts x rest = (m : ℕ) × (least ≤ m) × LeftRead room m ts x rest
 
   prefixed_sound : (least : ℕ) (t : Token) (ts : List Token) (p : Unary × ℕ) → least ≤ p.1 → prefix_of t.kind ≡ Some p → Done (Operand least (t ∷ ts)) (prefixed (expr room) room t.at p.0 p.1 (t ∷ ts))
@@ -300,7 +298,7 @@ module _ (room : ℕ) (right : Right room) where
       (λ x rest s. map_done (OperandRead room (t ∷ ts)) (Operand least (t ∷ ts)) _ (suffixes_sound (length rest) x (t ∷ ts) rest s)
       (λ y left r. (15, low, record { front = r.front; is = r.is; are = r.are; within = r.within; next = always 15 left (omega arith) })))
 
-  operand_sound : (least : ℕ) → least ≤ 15 → (ts : List Token) → Done (Operand least ts) (operand (expr room) room least ts)
+  pub operand_sound : (least : ℕ) → least ≤ 15 → (ts : List Token) → Done (Operand least ts) (operand (expr room) room least ts)
   unfolding operand first
   operand_sound least low [] = tt
   operand_sound least low (t ∷ ts) = operand_step least low t ts (prefix_of t.kind) refl

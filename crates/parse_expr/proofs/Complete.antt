@@ -1,7 +1,6 @@
 -- What the grammar says is an expression is read as it.
-use Rattle.std.proofs.Common.{◌≡◌, ◌≤◌, ◌<◌, ℕ, zero, suc, ◌+◌, ◌==◌, max, nat_lt, Bool, true, false, if◌then◌else◌, List, [], ◌∷◌, ◌++◌, length, Option, Some, None, Result, Ok, Err, refl, sym, ap, ◌∙◌, subst, ◌⊎◌, inl, inr, arith, tests, rules, append_assoc, length-append}
+use Rattle.std.proofs.Common.{◌≡◌, ◌≤◌, ◌<◌, ℕ, zero, suc, ◌+◌, ◌==◌, max, nat_lt, Bool, true, false, if◌then◌else◌, List, [], ◌∷◌, ◌++◌, length, Option, Some, None, Ok, refl, sym, ap, ◌∙◌, subst, inl, inr, arith, append_assoc, length-append}
 use Rattle.std.proofs.lemmas.Bool.Decides.{nat_tests}
-use Rattle.fb_base.specs.declared.fault.Span.{Span}
 use Rattle.fb_lexer.specs.declared.token.Token.{Token}
 use Rattle.fb_lexer.specs.declared.token.TokenKind.{TokenKind}
 use Rattle.fb_lexer.specs.declared.token.TokenKind.TheVariants as kinds
@@ -21,10 +20,10 @@ use Rattle.fb_ast.specs.Places.{place_of}
 use Rattle.parse_expr.specs.declared.kinds.Operator.{Operator}
 use Rattle.parse_expr.specs.declared.kinds.Suffix.{Suffix}
 use Rattle.parse_expr.specs.Words.{suffix_of, suffix_mark, prefix_of, binary_of, binary_mark, binary_word, base_of, is_pointer}
-use Rattle.parse_expr.specs.Reading.{first, next, same_mark, is_mark, holds, sees, expect, Outcome, Reader, and_then}
-use Rattle.parse_expr.specs.Types.{pointers, behind_pointers, type_name, name, name_by}
-use Rattle.parse_expr.specs.Rows.{Row, gives, mark, typed, named, part, arguments, choice, Start, Leaf, Inner, Nothing, start_of, suffix_row}
-use Rattle.parse_expr.specs.Expr.{Measured, expr, part_in, arguments_from, arguments_in, read_row, opens, started, primary, suffix_at, suffixed, suffixes, prefixed, operand, operand_by, operated, climb, level, operator_at}
+use Rattle.parse_expr.specs.Reading.{first, next, same_mark, is_mark, holds, sees, expect, Outcome, and_then}
+use Rattle.parse_expr.specs.Types.{pointers, behind_pointers, type_name, name}
+use Rattle.parse_expr.specs.Rows.{Row, mark, typed, named, part, arguments, choice, Start, Leaf, Inner, Nothing, start_of, suffix_row}
+use Rattle.parse_expr.specs.Expr.{Measured, expr, part_in, arguments_from, arguments_in, read_row, opens, started, primary, suffix_at, suffixed, suffixes, prefixed, operand, operated, climb, level}
 use Rattle.parse_expr.specs.Grammar.{ArePointers, IsType, written, row_of, may_follow, Piece, Expression, Behind, Arguments, Is, primary as a_primary, suffix as a_suffix, prefix as a_prefix, binary as a_binary, nothing, a_mark, a_type, a_name, a_part, no_arguments, some_arguments, with_choice, without_choice, last_argument, one_argument}
 use Rattle.parse_expr.proofs.Sound.{mark_is}
 use Rattle.parse_expr.proofs.Levels.{small, small_not, prefix_level, prefix_small, coming, AtMost, not_lt, none_comes, some_comes}
@@ -83,7 +82,7 @@ name_is : (t : Token) (ts : List Token) (text : List ℕ) → t.kind ≡ kinds.N
 unfolding name first next
 name_is t ts text kind = rw kind refl
 
-no_pointers : (ts : List Token) → holds is_pointer (first ts) ≡ false → (pointers ts ≡ 0) × (behind_pointers ts ≡ ts)
+pub no_pointers : (ts : List Token) → holds is_pointer (first ts) ≡ false → (pointers ts ≡ 0) × (behind_pointers ts ≡ ts)
 unfolding pointers behind_pointers first
 no_pointers [] none = (refl, refl)
 no_pointers (t ∷ ts) none = (rw none refl, rw none refl)

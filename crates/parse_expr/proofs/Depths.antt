@@ -1,5 +1,5 @@
 -- How deep the parts of an expression make it.
-use Rattle.std.proofs.Common.{◌≡◌, ◌≤◌, ◌<◌, ℕ, zero, suc, ◌+◌, max, List, [], ◌∷◌, ◌++◌, arith}
+use Rattle.std.proofs.Common.{◌≤◌, ℕ, ◌+◌, List, [], arith}
 use Rattle.fb_lexer.specs.declared.token.Token.{Token}
 use Rattle.fb_ast.specs.declared.expr.Expr.{Expr}
 use Rattle.fb_ast.specs.declared.ty.TypeName.{TypeName}

@@ -1,42 +1,57 @@
 -- Where a reading ends, no expression goes on.
-use Rattle.std.proofs.Common.{◌≡◌, ◌≤◌, ◌<◌, ℕ, zero, suc, ◌+◌, ◌-◌, List, [], ◌∷◌, ◌++◌, length, drop, Option, Some, None, Result, Ok, Err, refl, sym, ap, ◌∙◌, subst, ◌⊎◌, inl, inr, arith, append-nil, append_assoc, length-append, length-drop, nat_lt, Bool, true, false}
+use Rattle.std.proofs.Common.{◌≡◌, ◌≤◌, ◌<◌, ℕ, suc, ◌+◌, ◌-◌, List, [], ◌∷◌, ◌++◌, length, drop, Result, Ok, Err, refl, sym, ap, ◌∙◌, subst, inl, inr, arith, append-nil, append_assoc, length-append, length-drop, nat_lt, Bool, true, false}
 use Rattle.std.proofs.lemmas.Bool.Decides.{nat_tests}
 use Rattle.fb_base.specs.declared.fault.Span.{Span}
+use Rattle.fb_base.specs.declared.fault.FaultKind.{FaultKind}
 use Rattle.fb_lexer.specs.declared.token.Token.{Token}
 use Rattle.fb_ast.specs.declared.expr.Expr.{Expr}
 use Rattle.parse_expr.specs.declared.stop.Stop.{Stop}
 use Rattle.parse_expr.specs.Reading.{Outcome}
 use Rattle.parse_expr.specs.Expr.{Measured, expr, told, expr_at, error_of, fault_place}
-use Rattle.parse_expr.specs.Grammar.{Expression, Is, IsExpression, Begins, Stands, EndsAt}
+use Rattle.parse_expr.specs.Grammar.{IsExpression, Begins, Stands, EndsAt}
 use Rattle.fb_base.specs.declared.fault.Fault.{Fault}
 use Rattle.parse_expr.specs.declared.stop.Stop.TheVariants as stops
 use Rattle.parse_expr.specs.declared.stop.ParseErr.{ParseErr}
 use Rattle.parse_expr.specs.declared.stop.ParseErr.TheVariants as errors
 use Rattle.parse_expr.proofs.Unique.{read_is, nothing_behind}
-use Rattle.parse_expr.proofs.Local.{Alike, here, there, Local, Good, good, Leaves}
+use Rattle.parse_expr.proofs.Ends.{Leaves}
+use Rattle.parse_expr.proofs.Rowed.{a_number}
+use Rattle.parse_expr.proofs.Twins.{Place, same_place, Alike, here, there, Loose, Near, twins}
 
-alike : (s u front : List Token) (t : Token) → Alike s u (front ++ t ∷ s) (front ++ t ∷ u)
-alike s u [] t = here t
-alike s u (x ∷ front) t = there x (front ++ t ∷ s) (front ++ t ∷ u) (alike s u front t)
+pub alike : (L : FaultKind → Type 0) (t : Token) (s v : List Token) (place : Place L t v) (front : List Token) → Alike L t s v place (front ++ t ∷ s) (front ++ v)
+alike L t s v place [] = here
+alike L t s v place (x ∷ front) = there x (front ++ t ∷ s) (front ++ v) (alike L t s v place front)
 
 -- a whole expression is read to its end
-read_all : (ts : List Token) (tree : Expr) → (e : IsExpression ts tree) → expr 200 1 ts ≡ Ok ((tree, e.0), [])
+pub read_all : (ts : List Token) (tree : Expr) → (e : IsExpression ts tree) → expr 200 1 ts ≡ Ok ((tree, e.0), [])
 read_all ts tree e = subst (λ (xs : List Token). expr 200 1 xs ≡ Ok ((tree, e.0), [])) (append-nil ts) (read_is 199 ts [] tree e.0 e.2 e.1 nothing_behind)
 
 -- what is left where a reading ends
-abbrev left : {A : Type 0} → Outcome A → List Token
+abbrev pub left : {A : Type 0} → Outcome A → List Token
 left (Ok p) = p.1
 left (Err p) = p.1
 
-none_alike : (s u a b : List Token) → b ≡ [] → Alike s u a b → ⊥
-none_alike s u a b is (here t) = cc
-none_alike s u a b is (there t c d al) = cc
+pub not_ok : (p : Stop × List Token) (x : Measured) (r : List Token) → ◌≡◌ {A = Outcome Measured} (Err p) (Ok (x, r)) → ⊥
+not_ok p x r is = cc
 
-not_all : (s u : List Token) (o other : Outcome Measured) (x : Measured) → Local s u o other → other ≡ Ok (x, []) → length s < length (left o) → ⊥
-not_all s u (Ok p) other x (inl small) is more = absurd (omega arith)
-not_all s u (Err p) other x (inl small) is more = absurd (omega arith)
-not_all s u (Ok p) other x (inr l) is more = none_alike s u p.1 l.0 (ap left (sym l.1 ∙ is)) l.2
-not_all s u (Err p) other x (inr l) is more = cc
+pub none_alike : (L : FaultKind → Type 0) (t : Token) (s v : List Token) (place : Place L t v) (a b : List Token) → b ≡ [] → (v ≡ [] → ⊥) → Alike L t s v place a b → ⊥
+none_alike L t s v place a b is some here = some is
+none_alike L t s v place a b is some (there x c d al) = cc
+
+-- no kind of fault
+abbrev Never : FaultKind → Type 0
+Never kind = ⊥
+
+never_loose : (t : Token) (s v : List Token) (place : Place Never t v) (stop : Stop) → Loose Never t s v place stop → ⊥
+never_loose t s v place stops.NoMemory loose = loose
+never_loose t s v place (stops.Fault kind) loose = loose
+
+not_all : (t : Token) (s v : List Token) (place : Place Never t v) (o other : Outcome Measured) (x : Measured) → Near Never t s v place o other → (v ≡ [] → ⊥) → other ≡ Ok (x, []) → length s < length (left o) → ⊥
+not_all t s v place (Ok p) other x (inl small) some is more = absurd (omega arith)
+not_all t s v place (Err p) other x (inl (inl small)) some is more = absurd (omega arith)
+not_all t s v place (Err p) other x (inl (inr loose)) some is more = never_loose t s v place p.0 loose
+not_all t s v place (Ok p) other x (inr l) some is more = none_alike Never t s v place p.1 l.0 (ap left (sym l.1 ∙ is)) some l.2
+not_all t s v place (Err p) other x (inr l) some is more = not_ok (l.0, l.1) x [] (sym l.2 ∙ is)
 
 -- no expression agrees with the tokens up to the one at which a reading ends
 pub none_begins : (front s : List Token) (t : Token) → left (expr 200 1 (front ++ t ∷ s)) ≡ t ∷ s → Begins (front ++ t ∷ []) → ⊥
@@ -45,17 +60,21 @@ none_begins front s t ends b =
     let whole : (front ++ t ∷ []) ++ more ≡ front ++ t ∷ more = append_assoc front (t ∷ []) more in
     let e : IsExpression (front ++ t ∷ more) b.1 = subst (λ (xs : List Token). IsExpression xs b.1) whole b.2 in
     let read = read_all (front ++ t ∷ more) b.1 e in
-    let local = (good s more 200 1).local (front ++ t ∷ s) (front ++ t ∷ more) (alike s more front t) in
+    let place = same_place Never t more in
+    let near = (twins Never t s (t ∷ more) place 200 200 (inl refl) 1).near (front ++ t ∷ s) (front ++ t ∷ more) (alike Never t s (t ∷ more) place front) in
     let longer : length (left (expr 200 1 (front ++ t ∷ s))) ≡ suc (length s) = ap length ends in
-    not_all s more (expr 200 1 (front ++ t ∷ s)) (expr 200 1 (front ++ t ∷ more)) (b.1, e.0) local read (omega arith)
+    not_all t s (t ∷ more) place (expr 200 1 (front ++ t ∷ s)) (expr 200 1 (front ++ t ∷ more)) (b.1, e.0) near (λ none. cc) read (omega arith)
+
+leaves : (ts : List Token) → Leaves ts (expr 200 1 ts)
+leaves ts = (twins Never a_number [] (a_number ∷ []) (same_place Never a_number []) 200 200 (inl refl) 1).leaves ts
 
 -- ---- the longest expression
 
-abbrev tail_of : List Token → List Token
+abbrev pub tail_of : List Token → List Token
 tail_of [] = []
 tail_of (t ∷ ts) = ts
 
-abbrev head_or : Token → List Token → Token
+abbrev pub head_or : Token → List Token → Token
 head_or other [] = other
 head_or other (t ∷ ts) = t
 
@@ -69,7 +88,7 @@ pub record Further (f g rest more : List Token) : Type 0 where
   pub longer : g ≡ f ++ token ∷ behind
   pub is : rest ≡ token ∷ (behind ++ more)
 
-further : (f g rest more : List Token) → f ++ rest ≡ g ++ more → length f < length g → Further f g rest more
+pub further : (f g rest more : List Token) → f ++ rest ≡ g ++ more → length f < length g → Further f g rest more
 further [] [] rest more is less = absurd (omega arith)
 further [] (t ∷ g) rest more is less = record { token = t; behind = g; longer = refl; is = is }
 further (x ∷ f) [] rest more is less = absurd (omega arith)
@@ -83,12 +102,9 @@ abbrev place_in : Span → ParseErr → Span
 place_in other errors.NoMemory = other
 place_in other (errors.Fault fault) = fault.at
 
-place_by : (tokens : List Token) (fault : Fault) (stop : Stop) (rest : List Token) → error_of tokens stop rest ≡ errors.Fault fault → fault.at ≡ fault_place tokens rest
+pub place_by : (tokens : List Token) (fault : Fault) (stop : Stop) (rest : List Token) → error_of tokens stop rest ≡ errors.Fault fault → fault.at ≡ fault_place tokens rest
 place_by tokens fault stops.NoMemory rest is = cc
 place_by tokens fault (stops.Fault kind) rest is = sym (ap (place_in fault.at) is)
-
-not_ok : (p : Stop × List Token) (x : Measured) (r : List Token) → ◌≡◌ {A = Outcome Measured} (Err p) (Ok (x, r)) → ⊥
-not_ok p x r is = cc
 
 abbrev error_or : ParseErr → Result (Expr × ℕ) ParseErr → ParseErr
 error_or other (Ok p) = other
@@ -113,7 +129,7 @@ ends_by tokens at fault (Err p) is l answer = record {
 }
 
 pub ends_at : (tokens : List Token) (at : ℕ) (fault : Fault) → expr_at tokens at ≡ Err (errors.Fault fault) → EndsAt tokens at fault.at
-ends_at tokens at fault answer = ends_by tokens at fault (expr 200 1 (drop at tokens)) refl ((good [] [] 200 1).leaves (drop at tokens)) answer
+ends_at tokens at fault answer = ends_by tokens at fault (expr 200 1 (drop at tokens)) refl (leaves (drop at tokens)) answer
 
 -- where an answer stands, with what its reading leaves
 pub record StandsLeft (tokens : List Token) (at end : ℕ) (tree : Expr) : Type 0 where
@@ -147,4 +163,4 @@ longest_by tokens at end other tree another s t true is =
 -- no expression from a place on is longer than the one that is read
 pub longest : (tokens : List Token) (at end other : ℕ) (tree another : Expr) → at ≤ length tokens → expr_at tokens at ≡ Ok (tree, end) → Stands tokens at other another → other ≤ end
 longest tokens at end other tree another within answer t =
-    longest_by tokens at end other tree another (stands_left tokens at end tree within (expr 200 1 (drop at tokens)) refl ((good [] [] 200 1).leaves (drop at tokens)) answer) t (nat_lt end other) refl
+    longest_by tokens at end other tree another (stands_left tokens at end tree within (expr 200 1 (drop at tokens)) refl (leaves (drop at tokens)) answer) t (nat_lt end other) refl

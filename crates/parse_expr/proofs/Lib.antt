@@ -11,5 +11,11 @@ pub mod Depths
 pub mod Passes
 pub mod Complete
 pub mod Unique
-pub mod Local
+pub mod Ends
+pub mod Refused
+pub mod Fills
+pub mod Rowed
+pub mod Begun
+pub mod Twins
 pub mod Firsts
+pub mod FirstFault

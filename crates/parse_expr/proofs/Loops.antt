@@ -1,5 +1,5 @@
 -- One turn of a loop over what goes on with an expression.
-use Rattle.std.proofs.Common.{◌≡◌, ◌≤◌, ℕ, zero, suc, ◌+◌, List, Option, Some, None, Result, Ok, Err, refl, ap, ◌∙◌, subst}
+use Rattle.std.proofs.Common.{◌≡◌, ◌≤◌, ℕ, suc, List, Option, Some, None, Ok, refl, ap}
 use Rattle.fb_lexer.specs.declared.token.Token.{Token}
 use Rattle.parse_expr.specs.declared.kinds.Operator.{Operator}
 use Rattle.parse_expr.specs.declared.kinds.Suffix.{Suffix}

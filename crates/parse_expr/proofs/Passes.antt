@@ -1,12 +1,11 @@
 -- What the rows of the productions have in common: behind a part comes a mark that goes on with no expression.
-use Rattle.std.proofs.Common.{◌≡◌, ◌≤◌, ◌<◌, ℕ, zero, suc, ◌+◌, max, Bool, true, false, List, [], ◌∷◌, ◌++◌, Option, Some, None, refl, sym, ap, ◌∙◌, subst, arith, rules}
+use Rattle.std.proofs.Common.{◌≡◌, ℕ, Bool, true, false, List, [], ◌∷◌, ◌++◌, Some, None, refl, sym, ap, ◌∙◌, rules}
 use Rattle.fb_base.specs.declared.fault.Span.{Span}
 use Rattle.fb_lexer.specs.declared.token.Token.{Token}
 use Rattle.fb_lexer.specs.declared.token.TokenKind.{TokenKind}
 use Rattle.fb_lexer.specs.declared.token.TokenKind.TheVariants as kinds
 use Rattle.fb_lexer.specs.declared.token.Mark.{Mark}
-use Rattle.fb_lexer.specs.declared.token.Mark.TheVariants.{Open, OpenBracket, Close, Comma}
-use Rattle.fb_ast.specs.declared.operator.Binary.{Binary}
+use Rattle.fb_lexer.specs.declared.token.Mark.TheVariants.{Open, OpenBracket}
 use Rattle.fb_ast.specs.declared.expr.Expr.{Expr, the_lemmas}
 use Rattle.fb_ast.specs.declared.expr.Expr.TheVariants as e
 use Rattle.fb_ast.specs.declared.ty.TypeName.{TypeName}
@@ -16,12 +15,11 @@ use Rattle.parse_expr.specs.declared.kinds.Suffix.TheVariants as suffix_kinds
 use Rattle.parse_expr.specs.declared.kinds.OperandWord.{OperandWord}
 use Rattle.parse_expr.specs.declared.kinds.OperandWord.TheVariants as begins_word
 use Rattle.parse_expr.specs.Words.{suffix_of, suffix_mark, binary_of, binary_mark, is_pointer, operand_word}
-use Rattle.parse_expr.specs.Reading.{first, next, same_mark, is_mark, holds, sees}
-use Rattle.parse_expr.specs.Rows.{Row, gives, mark, typed, named, part, arguments, choice, Start, Leaf, Inner, Nothing, start_of, word_start, mark_start, suffix_row, new_row, new_with_row, new_array_row}
-use Rattle.parse_expr.specs.Expr.{opens, suffix_at}
-use Rattle.parse_expr.specs.Grammar.{row_of, may_follow, Piece, Expression, Behind, Arguments, Is, nothing, a_mark, with_choice, without_choice}
+use Rattle.parse_expr.specs.Reading.{first, same_mark, is_mark, holds, sees}
+use Rattle.parse_expr.specs.Rows.{Row, gives, mark, typed, named, part, arguments, choice, Start, Leaf, Inner, Nothing, start_of, word_start, mark_start, suffix_row, new_row, new_array_row}
+use Rattle.parse_expr.specs.Expr.{opens}
+use Rattle.parse_expr.specs.Grammar.{may_follow, Behind, Is, nothing, a_mark, with_choice, without_choice}
 use Rattle.parse_expr.proofs.Sound.{mark_is}
-use Rattle.parse_expr.proofs.Levels.{coming}
 use Rattle.parse_expr.proofs.Climbs.{MayGo}
 use Rattle.parse_expr.proofs.Depths.{Deep}
 

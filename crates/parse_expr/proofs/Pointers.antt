@@ -1,5 +1,5 @@
 -- Ptr and Pointer behind a type, one by one.
-use Rattle.std.proofs.Common.{◌≡◌, ◌<◌, ℕ, suc, ◌+◌, Bool, true, false, List, [], ◌∷◌, length, refl, ap, arith}
+use Rattle.std.proofs.Common.{◌≡◌, ◌<◌, ◌+◌, Bool, true, false, List, [], ◌∷◌, length, refl, arith}
 use Rattle.fb_lexer.specs.declared.token.Token.{Token}
 use Rattle.parse_expr.specs.Words.{is_pointer}
 use Rattle.parse_expr.specs.Reading.{first, next}

@@ -1,23 +1,21 @@
 -- What is read is what the grammar says it is.
-use Rattle.std.proofs.Common.{◌≡◌, ◌≤◌, ◌<◌, ℕ, zero, suc, ◌+◌, ◌==◌, max, nat_lt, Bool, true, false, if◌then◌else◌, List, [], ◌∷◌, ◌++◌, length, Option, Some, None, Result, Ok, Err, refl, sym, ap, ◌∙◌, subst, ◌⊎◌, inl, inr, arith, tests, rules, append_assoc}
+use Rattle.std.proofs.Common.{◌≡◌, ◌≤◌, ℕ, zero, suc, ◌==◌, max, Bool, true, false, if◌then◌else◌, List, [], ◌∷◌, ◌++◌, length, Option, Some, None, Ok, Err, refl, sym, ap, ◌∙◌, subst, ◌⊎◌, inl, inr, arith, rules, append_assoc}
 use denote.Enum.Bare.{same_true}
 use Rattle.fb_lexer.specs.declared.token.Token.{Token}
 use Rattle.fb_lexer.specs.declared.token.TokenKind.{TokenKind}
 use Rattle.fb_lexer.specs.declared.token.TokenKind.TheVariants as kinds
 use Rattle.fb_lexer.specs.declared.token.Mark.{Mark}
-use Rattle.fb_lexer.specs.declared.token.Mark.TheVariants.{Open, Close, OpenBracket, CloseBracket, Comma}
+use Rattle.fb_lexer.specs.declared.token.Mark.TheVariants.{Close, Comma}
 use Rattle.fb_lexer.specs.contracts.token.Mark as mark_contracts
 use Rattle.fb_ast.specs.declared.expr.Expr.{Expr}
 use Rattle.fb_ast.specs.declared.ty.Base.{Base}
-use Rattle.fb_ast.specs.declared.ty.TypeName.{TypeName}
 use Rattle.fb_ast.specs.declared.part.Name.{Name}
-use Rattle.parse_expr.specs.declared.stop.Stop.{Stop}
 use Rattle.parse_expr.specs.Words.{is_pointer, base_of}
-use Rattle.parse_expr.specs.Reading.{first, next, same_mark, is_mark, holds, sees, expect, Outcome, Reader, and_then}
-use Rattle.parse_expr.specs.Types.{pointers, behind_pointers, type_name, type_at, type_from, name, name_at, name_by}
+use Rattle.parse_expr.specs.Reading.{first, next, same_mark, is_mark, sees, expect, Outcome, Reader, and_then}
+use Rattle.parse_expr.specs.Types.{pointers, behind_pointers, type_name, type_from, name, name_by}
 use Rattle.parse_expr.specs.Rows.{Row, gives, mark, typed, named, part, arguments, choice}
-use Rattle.parse_expr.specs.Expr.{Measured, expr, part_in, arguments_from, arguments_in, read_row, opens, too_deep, operator_at}
-use Rattle.parse_expr.specs.Grammar.{ArePointers, IsType, written, Piece, Expression, Behind, Arguments, Is, nothing, a_mark, a_type, a_name, a_part, no_arguments, some_arguments, with_choice, without_choice, last_argument, one_argument}
+use Rattle.parse_expr.specs.Expr.{Measured, expr, part_in, arguments_from, arguments_in, read_row, opens, operator_at}
+use Rattle.parse_expr.specs.Grammar.{ArePointers, IsType, written, Expression, Behind, Arguments, Is, nothing, a_mark, a_type, a_name, a_part, no_arguments, some_arguments, with_choice, without_choice, last_argument, one_argument}
 
 -- ---- steps of a reading
 
@@ -215,7 +213,7 @@ pub record RowRead (room : ℕ) (row : Row) (deepest : ℕ) (ts : List Token) (x
 abbrev pub ArgumentsOrNone : ℕ → ℕ → List Token → List Expr × ℕ → List Token → Type 0
 ArgumentsOrNone room deepest ts x rest = ((Takes Close ts rest) × (x.0 ≡ []) × (x.1 ≡ deepest)) ⊎ ArgumentsRead room deepest [] ts x rest
 
-arguments_sound : (room : ℕ) → Right room → (deepest : ℕ) (ts : List Token) → Done (ArgumentsOrNone room deepest ts) (arguments_in (expr room) room deepest ts)
+pub arguments_sound : (room : ℕ) → Right room → (deepest : ℕ) (ts : List Token) → Done (ArgumentsOrNone room deepest ts) (arguments_in (expr room) room deepest ts)
 unfolding arguments_in
 arguments_sound room right deepest ts =
     by_test (λ (o : Outcome (List Expr × ℕ)). Done (ArgumentsOrNone room deepest ts) o) (sees Close ts) _ _

@@ -1,7 +1,6 @@
 -- The loops of a reading need no more turns than there are tokens, so each is a recursion without a count.
-use Rattle.std.proofs.Common.{◌≡◌, ◌≤◌, ◌<◌, ℕ, zero, suc, ◌+◌, nat_lt, Bool, true, false, if◌then◌else◌, List, [], ◌∷◌, ◌++◌, length, Option, Some, None, Result, Ok, Err, refl, sym, ap, ◌∙◌, subst, arith, tests, rules}
+use Rattle.std.proofs.Common.{◌≡◌, ◌≤◌, ◌<◌, ℕ, zero, suc, ◌+◌, nat_lt, List, [], ◌∷◌, length, Option, Some, None, Ok, Err, refl, ap, subst, arith}
 use Rattle.fb_lexer.specs.declared.token.Token.{Token}
-use Rattle.fb_ast.specs.declared.expr.Expr.{Expr}
 use Rattle.parse_expr.specs.declared.kinds.Operator.{Operator}
 use Rattle.parse_expr.specs.declared.kinds.Suffix.{Suffix}
 use Rattle.parse_expr.specs.Reading.{first, next, Outcome, Reader, and_then}

@@ -1,14 +1,11 @@
 -- Tokens are one tree at most, and each expression is read.
-use Rattle.std.proofs.Common.{◌≡◌, ◌≤◌, ◌<◌, ℕ, zero, suc, ◌+◌, ◌-◌, List, [], ◌∷◌, ◌++◌, length, drop, Option, Some, None, Result, Ok, Err, refl, sym, ap, ◌∙◌, subst, arith, append-nil, length-append, length-drop}
+use Rattle.std.proofs.Common.{◌≡◌, ◌≤◌, ℕ, suc, ◌+◌, ◌-◌, List, [], ◌++◌, length, drop, Ok, Err, refl, sym, ap, ◌∙◌, arith, length-append, length-drop}
 use Rattle.fb_lexer.specs.declared.token.Token.{Token}
 use Rattle.fb_ast.specs.declared.expr.Expr.{Expr}
-use Rattle.fb_ast.specs.declared.operator.Binary.{Binary}
-use Rattle.parse_expr.specs.declared.stop.Stop.{Stop}
-use Rattle.parse_expr.specs.Words.{is_pointer}
-use Rattle.parse_expr.specs.Reading.{first, holds, Outcome}
-use Rattle.parse_expr.specs.Expr.{Measured, expr, climb, suffix_at, operator_at, told, expr_at}
+use Rattle.parse_expr.specs.Reading.{first, Outcome}
+use Rattle.parse_expr.specs.Expr.{Measured, expr, told, expr_at}
 use Rattle.parse_expr.specs.Grammar.{Expression, Is, IsExpression, EndsBefore}
-use Rattle.parse_expr.proofs.Levels.{coming, AtMost, ends_below}
+use Rattle.parse_expr.proofs.Levels.{AtMost, ends_below}
 use Rattle.parse_expr.proofs.Turned.{climb_none}
 use Rattle.parse_expr.proofs.Complete.{complete}
 

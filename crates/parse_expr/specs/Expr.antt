@@ -1,12 +1,9 @@
 -- How expressions are read: by their levels, each part with one level less of depth.
 use Rattle.std.specs.Prelude.{ℕ, zero, suc, ◌+◌, ◌-◌, ◌≡◌, ◌≢◌, max, nat_lt, nat_le, ◌==◌, Bool, true, false, if◌then◌else◌, List, [], ◌∷◌, ◌++◌, length, drop, slice_get, Option, Some, None, Result, Ok, Err}
 use Rattle.fb_base.specs.declared.fault.Span.{Span}
-use Rattle.fb_base.specs.declared.fault.FaultKind.{FaultKind}
-use Rattle.fb_base.specs.declared.fault.FaultKind.TheVariants.{Expected, DeepNesting}
+use Rattle.fb_base.specs.declared.fault.FaultKind.TheVariants.{DeepNesting}
 use Rattle.fb_lexer.specs.declared.token.Token.{Token}
-use Rattle.fb_lexer.specs.declared.token.TokenKind.{TokenKind}
-use Rattle.fb_lexer.specs.declared.token.Mark.{Mark}
-use Rattle.fb_lexer.specs.declared.token.Mark.TheVariants.{Close, Comma, OpenBracket}
+use Rattle.fb_lexer.specs.declared.token.Mark.TheVariants.{Close, Comma}
 use Rattle.fb_ast.specs.declared.operator.Unary.{Unary}
 use Rattle.fb_ast.specs.declared.operator.Binary.{Binary}
 use Rattle.fb_ast.specs.declared.expr.Expr.{Expr}
@@ -19,7 +16,7 @@ use Rattle.parse_expr.specs.declared.stop.Stop.TheVariants as stops
 use Rattle.parse_expr.specs.declared.stop.ParseErr.{ParseErr}
 use Rattle.parse_expr.specs.declared.stop.ParseErr.TheVariants as errors
 use Rattle.parse_expr.specs.Words.{prefix_of, binary_of, suffix_of}
-use Rattle.parse_expr.specs.Reading.{Reader, Outcome, first, next, sees, expect, refuse, pure, stop, ◌>>=◌, ◌>>◌, and_then, take_token, turns}
+use Rattle.parse_expr.specs.Reading.{Reader, Outcome, first, next, sees, expect, refuse, pure, stop, ◌>>=◌, ◌>>◌, take_token, turns}
 use Rattle.parse_expr.specs.Types.{type_name, name}
 use Rattle.parse_expr.specs.Rows.{Row, gives, mark, typed, named, part, arguments, choice, Start, Leaf, Inner, Nothing, start_of, suffix_row, begins_operand}
 

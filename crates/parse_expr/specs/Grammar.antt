@@ -1,8 +1,7 @@
 -- The grammar of expressions: which tokens are which tree, and how deep it is.
-use Rattle.std.specs.Prelude.{◌≡◌, ◌≤◌, ◌<◌, ℕ, ◌+◌, max, Bool, true, false, List, [], ◌∷◌, ◌++◌, length, take, drop, Option, Some, None, ⊤}
+use Rattle.std.specs.Prelude.{◌≡◌, ◌≤◌, ℕ, ◌+◌, max, Bool, true, false, List, [], ◌∷◌, ◌++◌, length, drop, Option, Some, None, ⊤}
 use Rattle.fb_base.specs.declared.fault.Span.{Span}
 use Rattle.fb_lexer.specs.declared.token.Token.{Token}
-use Rattle.fb_lexer.specs.declared.token.TokenKind.{TokenKind}
 use Rattle.fb_lexer.specs.declared.token.TokenKind.TheVariants as kinds
 use Rattle.fb_lexer.specs.declared.token.Mark.{Mark}
 use Rattle.fb_lexer.specs.declared.token.Mark.TheVariants.{Close, Comma}

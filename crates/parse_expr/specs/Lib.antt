@@ -5,3 +5,4 @@ pub mod Rows
 pub mod Expr
 pub mod Nests
 pub mod Grammar
+pub mod Faults

@@ -3,7 +3,6 @@ use Rattle.std.specs.Prelude.{ℕ, ◌≤◌, Result, IfOk}
 use Rattle.std.specs.declared.alloc.Global.{Global}
 use denote.Ref.{MutBor}
 use Rattle.fb_lexer.specs.declared.token.Token.{Token}
-use Rattle.fb_ast.specs.declared.expr.Expr.{Expr}
 use Rattle.parse_expr.specs.declared.stop.Stop.{Stop}
 use Rattle.parse_expr.specs.Reading.{Reads}
 use Rattle.parse_expr.specs.Expr.{expr, Measured}

@@ -1,10 +1,10 @@
 -- The productions of expressions, each as the row of what follows its first token.
-use Rattle.std.specs.Prelude.{ℕ, Bool, true, false, Option, Some, None, List, []}
+use Rattle.std.specs.Prelude.{Bool, true, false, List}
 use Rattle.fb_base.specs.declared.fault.Span.{Span}
 use Rattle.fb_lexer.specs.declared.token.TokenKind.{TokenKind}
 use Rattle.fb_lexer.specs.declared.token.TokenKind.TheVariants as kinds
 use Rattle.fb_lexer.specs.declared.token.Mark.{Mark}
-use Rattle.fb_lexer.specs.declared.token.Mark.TheVariants.{Open, Close, OpenBracket, CloseBracket, Comma, Dot, Arrow}
+use Rattle.fb_lexer.specs.declared.token.Mark.TheVariants.{Open, Close, OpenBracket, CloseBracket, Comma}
 use Rattle.fb_ast.specs.declared.operator.CallWord.{CallWord}
 use Rattle.fb_ast.specs.declared.expr.Expr.{Expr}
 use Rattle.fb_ast.specs.declared.expr.Expr.TheVariants as e

@@ -1,5 +1,5 @@
 -- Types as they are written: the word of a type or a name, and then Ptr or Pointer any number of times.
-use Rattle.std.specs.Prelude.{ℕ, zero, suc, Bool, true, false, if◌then◌else◌, List, [], ◌∷◌, length, Option, Some, None, Ok, Err}
+use Rattle.std.specs.Prelude.{ℕ, suc, Bool, if◌then◌else◌, List, [], ◌∷◌, Option, Some, None, Ok}
 use Rattle.fb_base.specs.declared.fault.Span.{Span}
 use Rattle.fb_base.specs.declared.fault.FaultKind.TheVariants.{Expected}
 use Rattle.fb_lexer.specs.declared.token.Token.{Token}
@@ -8,9 +8,8 @@ use Rattle.fb_lexer.specs.declared.token.TokenKind.TheVariants as kinds
 use Rattle.fb_ast.specs.declared.ty.Base.{Base}
 use Rattle.fb_ast.specs.declared.ty.TypeName.{TypeName}
 use Rattle.fb_ast.specs.declared.part.Name.{Name}
-use Rattle.parse_expr.specs.declared.stop.Stop.TheVariants.{Fault}
 use Rattle.parse_expr.specs.Words.{base_of, is_pointer}
-use Rattle.parse_expr.specs.Reading.{Reader, Outcome, first, next, holds, refuse, pure, stop, ◌>>=◌, ◌>>◌, and_then, take_token}
+use Rattle.parse_expr.specs.Reading.{Reader, first, next, holds, refuse, pure, stop, ◌>>◌, take_token}
 
 unfoldable pub sees_pointer : List Token → Bool
 sees_pointer ts = holds is_pointer (first ts)

@@ -11,7 +11,6 @@ use Rattle.fb_ast.specs.declared.operator.Unary.{Unary}
 use Rattle.fb_ast.specs.declared.operator.Unary.TheVariants as unary
 use Rattle.fb_ast.specs.declared.operator.Binary.{Binary}
 use Rattle.fb_ast.specs.declared.operator.Binary.TheVariants as binary
-use Rattle.fb_ast.specs.declared.operator.CallWord.{CallWord}
 use Rattle.fb_ast.specs.declared.operator.CallWord.TheVariants as call
 use Rattle.fb_ast.specs.declared.ty.Base.{Base}
 use Rattle.fb_ast.specs.declared.ty.Base.TheVariants as base

@@ -5,6 +5,7 @@ ghost use Rattle.fb_base.specs.declared.fault.Fault.{Fault};
 ghost use Rattle.fb_ast.specs.declared.expr.Expr.{Expr};
 ghost use Rattle.parse_expr.specs.declared.stop.ParseErr.TheVariants as errors;
 ghost use Rattle.parse_expr.specs.Expr.{expr_at};
+ghost use Rattle.parse_expr.specs.Faults.{FirstFault};
 ghost use Rattle.parse_expr.specs.Grammar.{EndsAt, EndsBefore, IsExpression, Stands};
 
 /// What is read from a place on is an expression by the grammar, at most 200 deep, and stands there.
@@ -31,4 +32,15 @@ pub fn longest_tree()
 /// end too early they are no expression: a fault is never told too early.
 pub fn no_early_fault()
     ensures { (tokens : List Token) (at : ℕ) (fault : Fault) → expr_at tokens at ≡ Err (errors.Fault fault) → EndsAt tokens at fault.at }
+{}
+
+/// The fault that is told from a place on is the first one by the grammar: some expression at most 200 deep begins with the
+/// tokens before it, and none with its token too. Its kind is the one that the grammar gives.
+pub fn first_fault()
+    ensures { (tokens : List Token) (at : ℕ) (fault : Fault) → expr_at tokens at ≡ Err (errors.Fault fault) → FirstFault tokens at fault }
+{}
+
+/// The first fault by the grammar is told. So there is one at most, and none where an expression is read.
+pub fn faults_found()
+    ensures { (tokens : List Token) (at : ℕ) (fault : Fault) → FirstFault tokens at fault → expr_at tokens at ≡ Err (errors.Fault fault) }
 {}

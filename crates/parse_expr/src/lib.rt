@@ -11,7 +11,9 @@ mod types;
 
 pub use cursor::Cursor;
 pub use grammar::expr_in;
-pub use laws::{longest_tree, no_early_fault, one_tree, trees_found, trees_read};
+pub use laws::{
+    faults_found, first_fault, longest_tree, no_early_fault, one_tree, trees_found, trees_read,
+};
 pub use reading::{error_of, expr};
 pub use stop::{ParseErr, Stop};
 pub use types::{name, type_name};

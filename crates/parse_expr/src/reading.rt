@@ -1,6 +1,7 @@
-ghost use Rattle.std.specs.Prelude.{◌≡◌, ◌≤◌, length};
+ghost use Rattle.std.specs.Prelude.{◌≡◌, ◌≤◌, length, IfOk, IfErr};
 ghost use Rattle.parse_expr.specs.Expr as spec;
 ghost use Rattle.parse_expr.specs.Expr.{Answers, expr_at};
+ghost use Rattle.parse_expr.specs.Faults.{Fails, Longest};
 
 use crate::cursor::Cursor;
 use crate::grammar::expr_in;
@@ -38,13 +39,8 @@ pub fn error_of(tokens: &Tokens, stop: Stop, cursor: &Cursor<'_>) -> ParseErr
     ParseErr::Fault(Fault { kind, at })
 }
 
-/// The longest expression from a place of the tokens on, and the place behind it (FreeBASIC Manual, Operators).
-///
-/// The fault is `OutOfProfile` at a word that this profile doesn't have, where an operand or a type may begin,
-/// `DeepNesting` at the first token with which the expression is deeper than 200, and else `Expected` at the first token
-/// up to which no expression agrees with the tokens. Where the tokens end too early it is `Expected` at the last one, or at
-/// 1:1 where there is none.
-pub fn expr(alloc: Global, tokens: &Tokens, at: usize) -> Result<(Expr, usize), ParseErr>
+// What the reading function answers.
+fn read(alloc: Global, tokens: &Tokens, at: usize) -> Result<(Expr, usize), ParseErr>
     requires { at ≤ length tokens.now.items }
     ensures { Answers (expr_at tokens.now.items at) result }
 {
@@ -53,4 +49,21 @@ pub fn expr(alloc: Global, tokens: &Tokens, at: usize) -> Result<(Expr, usize), 
         Ok((tree, _)) => Ok((tree, tokens.len() - cursor.left())),
         Err(stop) => Err(error_of(tokens, stop, &cursor)),
     }
+}
+
+/// The longest expression from a place of the tokens on, and the place behind it (FreeBASIC Manual, Operators).
+///
+/// The fault is the first by the grammar: it stands at the first token up to which no expression agrees with the tokens.
+/// It is `OutOfProfile` at a word that this profile doesn't have, where an operand or a type may begin, `DeepNesting`
+/// where the tokens up to it begin an expression, but only one deeper than 200, and else `Expected`. Where the tokens end
+/// too early it is `Expected` at the last one, or at 1:1 where there is none. Behind a whole expression it is
+/// `DeepNesting` alone.
+#[tactic(auto, using(crate::proofs::FirstFault::longest_if, crate::proofs::FirstFault::fails_if))]
+pub fn expr(alloc: Global, tokens: &Tokens, at: usize) -> Result<(Expr, usize), ParseErr>
+    requires { at ≤ length tokens.now.items }
+    ensures reads { Answers (expr_at tokens.now.items at) result }
+    ensures tree { IfOk result (λ x. Longest tokens.now.items at x.1 x.0) }
+    ensures first { IfErr result (λ e. Fails tokens.now.items at e) }
+{
+    read(alloc, tokens, at)
 }

@@ -229,6 +229,7 @@ fn depths(rt: HostRuntime) -> Result<(), Fail> {
         ("(", 199, "New T(+", "Expected 1:206"),
         ("(", 199, "New T(a", "DeepNesting 1:206"),
         ("(", 199, "New T[a", "DeepNesting 1:205"),
+        ("(", 199, "Len(Single", "OutOfProfile 1:204"),
         ("(", 199, "a+", "DeepNesting 1:201"),
         ("(", 60_000, "1", "DeepNesting 1:200"),
         ("1 ", 60_000, "1", "1 1"),

@@ -1,6 +1,6 @@
 use Rattle.std.proofs.Common.{◌≡◌, ◌≤◌, ◌-◌, length, drop, ap, arith, length-drop}
 use Rattle.parse_expr.proofs.Answered.{left_within}
-use Rattle.parse_expr.proofs.reading.expr.Goals as goal
+use Rattle.parse_expr.proofs.reading.read.Goals as goal
 
 pub overflow_sub-result : goal.overflow_sub-result
 overflow_sub-result c =
