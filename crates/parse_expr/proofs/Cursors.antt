@@ -1,8 +1,8 @@
 -- The next token of the tokens from a place on.
-use Rattle.std.proofs.Common.{◌≡◌, ℕ, zero, suc, ◌+◌, ◌<◌, ◌≤◌, List, [], ◌∷◌, length, drop, Option, Some, None, slice_get, refl, ◌∙◌, sym, ap, add-one, arith}
+use Rattle.std.proofs.Common.{◌≡◌, ℕ, zero, suc, ◌+◌, ◌<◌, ◌≤◌, List, [], ◌∷◌, length, drop, Option, Some, None, slice_get, refl, ◌∙◌, sym, ap, add-one, arith, length-drop}
 use Rattle.std.proofs.Math.Seq.{drop-cons}
-use Rattle.std.proofs.lemmas.List.{drop_all}
-use Rattle.std.proofs.lemmas.Option.{slice_get_within, get_or_from_slice_get}
+use Rattle.std.proofs.lemmas.List.{drop_all, get_or-drop}
+use Rattle.std.proofs.lemmas.Option.{slice_get_within, slice_get_past, slice_get_read, get_or_from_slice_get}
 use Rattle.fb_lexer.specs.declared.token.Token.{Token}
 use Rattle.parse_expr.specs.Reading.{first, next}
 
@@ -29,3 +29,12 @@ next_some i ts = rw add-one (next_suc i ts)
 pub next_none : (ts : List Token) (i : ℕ) → length ts ≤ i → next (drop i ts) ≡ drop i ts
 unfolding next
 next_none ts i none = ap next (drop_all i ts none) ∙ sym (drop_all i ts none)
+
+pub get_some : (ts : List Token) (i k : ℕ) (t : Token) → slice_get ts (i + k) ≡ Some t → slice_get (drop i ts) k ≡ Some t
+get_some ts i k t is =
+    let within = slice_get_within ts (i + k) t is in
+    let left = length-drop i ts in
+    slice_get_read (drop i ts) (length (drop i ts)) k t refl (omega arith) (sym (get_or-drop i ts k t ∙ get_or_from_slice_get ts (i + k) t t is))
+
+pub get_none : (ts : List Token) (i k : ℕ) → length (drop i ts) ≤ k → slice_get (drop i ts) k ≡ None
+get_none ts i k past = slice_get_past (drop i ts) k past

@@ -1,5 +1,5 @@
 //! The tokens of a text from a place on.
-ghost use Rattle.std.specs.Prelude.{◌≡◌, ◌≤◌, ◌+◌, ◌-◌, length, List, drop};
+ghost use Rattle.std.specs.Prelude.{◌≡◌, ◌≤◌, ◌+◌, ◌-◌, length, List, drop, slice_get};
 ghost use Rattle.std.specs.Option.{option_copied};
 ghost use Rattle.parse_expr.specs.Reading as spec;
 ghost use Rattle.parse_expr.specs.Reading.{Reads};
@@ -52,6 +52,28 @@ impl<'a> Cursor<'a> {
     {
         if self.at < self.tokens.len() {
             Some(self.tokens.at(self.at))
+        } else {
+            None
+        }
+    }
+
+    /// The same tokens once more, to come back to.
+    pub fn copy(&self) -> Cursor<'a>
+        ensures { result ≡ self.now }
+    {
+        Cursor {
+            tokens: self.tokens,
+            at: self.at,
+        }
+    }
+
+    /// The token so many places behind the next one.
+    #[tactic(auto, using(crate::proofs::Cursors::get_some, crate::proofs::Cursors::get_none))]
+    pub fn get(&self, i: usize) -> Option<&'a Token>
+        ensures { option_copied result ≡ slice_get self.now i }
+    {
+        if i < self.left() {
+            Some(self.tokens.at(self.at + i))
         } else {
             None
         }

@@ -596,6 +596,16 @@ fn begins(token: &Token, least: u8) -> bool
     }
 }
 
+/// Whether an expression begins with the next token.
+pub fn begins_expr(cursor: &Cursor<'_>) -> bool
+    ensures { result ≡ spec.begins 1 (first cursor.now) }
+{
+    match cursor.peek() {
+        Some(token) => begins(token, WHOLE),
+        None => false,
+    }
+}
+
 // Where no expression can be deep enough: what is wrong with the next token.
 #[tactic(auto, unfolding(crate::specs::Expr::no_room))]
 fn no_room(cursor: &Cursor<'_>, least: u8) -> Stop

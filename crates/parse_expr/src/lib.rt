@@ -10,7 +10,8 @@ mod stop;
 mod types;
 
 pub use cursor::Cursor;
-pub use grammar::expr_in;
+pub use grammar::{begins_expr, expr_in};
+pub use kinds::{OperandWord, operand_word};
 pub use laws::{
     faults_found, first_fault, longest_tree, no_early_fault, one_tree, trees_found, trees_read,
 };
