@@ -72,7 +72,7 @@ impl<'a> Cursor<'a> {
     pub fn get(&self, i: usize) -> Option<&'a Token>
         ensures { option_copied result ≡ slice_get self.now i }
     {
-        if i < self.left() {
+        if i < self.tokens.len() - self.at {
             Some(self.tokens.at(self.at + i))
         } else {
             None
