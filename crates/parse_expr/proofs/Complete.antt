@@ -100,7 +100,7 @@ written_is : (t : Token) (base : Base) (ps : List Token) → base_of t.kind ≡ 
 unfolding type_name first next
 written_is t base ps is are ts none = let p = all_pointers ps ts are none in rw (is, p.0, p.1) refl
 
-type_is : {front : List Token} {ty : TypeName} → IsType front ty → (ts : List Token) → holds is_pointer (first ts) ≡ false → type_name (front ++ ts) ≡ Ok (ty, ts)
+pub type_is : {front : List Token} {ty : TypeName} → IsType front ty → (ts : List Token) → holds is_pointer (first ts) ≡ false → type_name (front ++ ts) ≡ Ok (ty, ts)
 type_is (written t base ps is are) ts none = written_is t base ps is are ts none
 
 suffix_is_mark : (kind : TokenKind) (s : Suffix) → suffix_of kind ≡ Some s → is_pointer kind ≡ false
