@@ -71,7 +71,7 @@ cell_within p o j place h e = by_over (cell_over p.head.shape.cells (o % p.head.
 
 -- past the end of a place no cell begins, and no byte passes a test
 pub live_past : (p : Place) (o : ℕ) → size_of p.head ≤ o → is_live_in p o ≡ false
-live_past p o h = ap (λ b. b && not (get_or p.closed o false)) (le-ltb o (size_of p.head) h)
+live_past p o h = ap (λ b. b && not (get_or p.closed o true)) (le-ltb o (size_of p.head) h)
 
 pub close_past : (p : Place) (o : ℕ) → size_of p.head ≤ o → may_close_in p o ≡ false
 close_past p o h = ap (λ b. b && not (is_alive (cell_with p o))) (le-ltb o (size_of p.head) h)

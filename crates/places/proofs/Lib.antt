@@ -5,3 +5,8 @@ pub mod Lists
 pub mod Shift
 pub mod Done
 pub mod Seen
+pub mod Over
+pub mod Here
+pub mod New
+pub mod OneCell
+pub mod Tables

@@ -60,7 +60,7 @@ pub write_keeps_heads : (m after : Places) (a w v n : ℕ) → written a w v m �
 write_keeps_heads m after a w v n e = ap (λ x. head_at x n) (sym (is_put m after a w v e)) ∙ same_puts (option_map (λ p. p.head)) (λ byte o p. refl) w a v m n
 
 -- Closing leaves the cells and the heads.
-is_closed_as : (m after : Places) (a len : ℕ) → closed a len m ≡ Some after → closes a len m ≡ after
+pub is_closed_as : (m after : Places) (a len : ℕ) → closed a len m ≡ Some after → closes a len m ≡ after
 is_closed_as m after a len e = (cond_some (each_byte (may_close m) a len) (closes a len m) after e).1
 
 pub close_keeps_cells : (m after : Places) (a len q : ℕ) → closed a len m ≡ Some after → cell_at after q ≡ cell_at m q
@@ -70,12 +70,12 @@ pub close_keeps_heads : (m after : Places) (a len n : ℕ) → closed a len m �
 close_keeps_heads m after a len n e = ap (λ x. head_at x n) (sym (is_closed_as m after a len e)) ∙ same_closes (option_map (λ p. p.head)) (λ o p. refl) len a m n
 
 -- One byte is another.
-get_set_same : (xs : List ℕ) (i x y : ℕ) → slice_get xs i ≡ Some x → slice_get (set xs i y) i ≡ Some y
+pub get_set_same : {A : Type 0} (xs : List A) (i : ℕ) (x y : A) → slice_get xs i ≡ Some x → slice_get (set xs i y) i ≡ Some y
 get_set_same [] i x y e = cc
 get_set_same (z ∷ zs) zero x y e = refl
 get_set_same (z ∷ zs) (suc i) x y e = get_set_same zs i x y e
 
-get_set_other : (xs : List ℕ) (i j y : ℕ) → j ≢ i → slice_get (set xs i y) j ≡ slice_get xs j
+pub get_set_other : {A : Type 0} (xs : List A) (i j : ℕ) (y : A) → j ≢ i → slice_get (set xs i y) j ≡ slice_get xs j
 get_set_other [] i j y ne = refl
 get_set_other (z ∷ zs) zero zero y ne = absurd (ne refl)
 get_set_other (z ∷ zs) zero (suc j) y ne = refl
@@ -165,7 +165,7 @@ write_bytes (suc w) a v m allowed =
     ∙ ap {B = Option Memory} (λ f. Some f) (sym (λ i q. each q i))
 
 -- A place in place of another one leaves what can't tell them apart.
-same_with : {A : Type 0} (view : Option Place → A) (m : Places) (n : ℕ) (p y : Place) → place_at m n ≡ Some p → view (Some y) ≡ view (Some p) → (k : ℕ) → view (place_at (with_place n (Some y) m) k) ≡ view (place_at m k)
+pub same_with : {A : Type 0} (view : Option Place → A) (m : Places) (n : ℕ) (p y : Place) → place_at m n ≡ Some p → view (Some y) ≡ view (Some p) → (k : ℕ) → view (place_at (with_place n (Some y) m) k) ≡ view (place_at m k)
 same_with view m n p y is same k = by_number (cases_eq k n) where
   by_number : (k ≡ n) ⊎ (k ≢ n) → view (place_at (with_place n (Some y) m) k) ≡ view (place_at m k)
   by_number (inl e) =
@@ -234,7 +234,7 @@ freed_next test m after a e =
     ap (λ x. next_number x) (sym f.2) ∙ ap (λ n. n + 1) (length-set m (number_of a - 1) None)
 
 -- A new place stands under a number that nothing had, and all others stay.
-made_is : (shape : Shape) (count addr : ℕ) (form : Form) (m after : Places) → made shape count form m ≡ Some (addr, after) → (address (next_number m) 0 ≡ addr) × (m ++ Some (fresh (new_head shape count form)) ∷ [] ≡ after)
+pub made_is : (shape : Shape) (count addr : ℕ) (form : Form) (m after : Places) → made shape count form m ≡ Some (addr, after) → (address (next_number m) 0 ≡ addr) × (m ++ Some (fresh (new_head shape count form)) ∷ [] ≡ after)
 made_is shape count addr form m after e = by_test (nat_lt most_live (live_size m + shape.size * count)) e where
   by_test : (b : Bool) → cond {A = Option (ℕ × Places)} b None (Some (address (next_number m) 0, m ++ Some (fresh (new_head shape count form)) ∷ [])) ≡ Some (addr, after) → (address (next_number m) 0 ≡ addr) × (m ++ Some (fresh (new_head shape count form)) ∷ [] ≡ after)
   by_test true s = cc

@@ -1,12 +1,12 @@
 -- What each call makes of a memory; None where it is refused.
-use Rattle.std.specs.Prelude.{ℕ, zero, suc, ◌+◌, ◌-◌, ◌*◌, ◌/◌, ◌%◌, ◌==◌, nat_lt, Bool, true, false, not, ◌&&◌, if◌then◌else◌, List, [], ◌∷◌, ◌++◌, is_some, Option, Some, None}
+use Rattle.std.specs.Prelude.{ℕ, zero, suc, ◌+◌, ◌-◌, ◌*◌, ◌/◌, ◌%◌, ◌==◌, nat_lt, Bool, true, false, not, ◌&&◌, if◌then◌else◌, List, [], ◌∷◌, ◌++◌, is_some, is_none, Option, Some, None}
 use Rattle.std.specs.Option.{option_map, option_and_then}
 use Rattle.thread_system.specs.Memory.{next_address, read}
 use Rattle.fb_base.specs.declared.shape.Shape.{Shape}
 use Rattle.places.specs.declared.kinds.Form.{Form}
 use Rattle.places.specs.declared.kinds.Form.TheVariants.{Scope, One, Many}
 use Rattle.places.specs.declared.kinds.Cell.{Cell}
-use Rattle.places.specs.Place.{Head, Place, size_of, cell_in, is_alive, may_close_in, fresh, with_byte_in, with_closed_in, with_cell_in, first_from}
+use Rattle.places.specs.Place.{Head, Place, size_of, cell_number, begins_cell, cell_in, is_alive, may_close_in, dead_cell, fresh, with_byte_in, with_closed_in, with_cell_in, first_from}
 use Rattle.places.specs.Memory.{Places, next_number, place_of, with_place, live_size, address, number_of, offset_of, byte_at, tells, starts_at, each_byte}
 
 -- The most bytes that live places have together.
@@ -15,6 +15,16 @@ most_live = 67108864
 
 abbrev pub new_head : Shape → ℕ → Form → Head
 new_head shape count form = record { shape = shape; count = count; form = form; dying = false }
+
+-- The byte and the cell at an offset of a new place.
+abbrev pub new_byte : Head → ℕ → Option ℕ
+new_byte h o = if nat_lt o (size_of h) && is_none (cell_number h o) then Some 0 else None
+
+abbrev pub new_cell : Head → ℕ → Option Cell
+new_cell h o = if nat_lt o (size_of h) && begins_cell h o then Some dead_cell else None
+
+abbrev pub marked_dying : Head → Head
+marked_dying h = record h { dying = true }
 
 -- A new place, with the next number: its address, and the memory with it. None where the live places would have too
 -- many bytes.
@@ -59,7 +69,7 @@ may_die shape form h = not h.dying && (same_form h.form form && same_shape h.sha
 -- The place that begins at an address is dying: its count, and the memory then.
 abbrev pub begun : ℕ → Shape → Form → Places → Option (ℕ × Places)
 begun a shape form m =
-    option_and_then (λ p. if may_die shape form p.head then Some (p.head.count, with_place (number_of a) (Some (record p { head = record p.head { dying = true } })) m) else None) (starts_at m a)
+    option_and_then (λ p. if may_die shape form p.head then Some (p.head.count, with_place (number_of a) (Some (record p { head = marked_dying p.head })) m) else None) (starts_at m a)
 
 -- the memory with another place under a number, if one is given
 abbrev pub replaced : ℕ → Option Place → Places → Places

@@ -1,5 +1,5 @@
 -- The memory that all threads share: places by number, and what stands at an address.
-use Rattle.std.specs.Prelude.{ℕ, zero, suc, ◌+◌, ◌-◌, ◌*◌, ◌/◌, ◌%◌, ◌^◌, ◌==◌, Bool, true, false, ◌&&◌, if◌then◌else◌, List, [], length, slice_index_or, slice_set, Option, Some, None}
+use Rattle.std.specs.Prelude.{ℕ, zero, suc, ◌+◌, ◌-◌, ◌*◌, ◌/◌, ◌%◌, ◌^◌, ◌==◌, Bool, true, false, ◌&&◌, ◌||◌, if◌then◌else◌, List, [], length, slice_index_or, slice_set, Option, Some, None}
 use Rattle.std.specs.List.{sum_by}
 use Rattle.std.specs.Option.{option_map, option_and_then}
 use Rattle.thread_system.specs.Memory.{next_address}
@@ -75,3 +75,8 @@ starts_at m a = if offset_of a == 0 then place_of m a else None
 abbrev pub each_byte : (ℕ → Bool) → ℕ → ℕ → Bool
 each_byte test a zero = true
 each_byte test a (suc len) = test a && each_byte test (next_address a) len
+
+-- Whether an address is one of so many, from one on.
+abbrev pub is_among : ℕ → ℕ → ℕ → Bool
+is_among a zero q = false
+is_among a (suc len) q = q == a || is_among (next_address a) len q

@@ -53,7 +53,7 @@ is_alive (Some cell) = cell.alive
 
 -- A byte is live if the place has it and it isn't closed; those of cells are among them.
 abbrev pub is_live_in : Place → ℕ → Bool
-is_live_in p o = nat_lt o (size_of p.head) && not (slice_index_or p.closed o false)
+is_live_in p o = nat_lt o (size_of p.head) && not (slice_index_or p.closed o true)
 
 -- The byte at an offset, if it may be accessed: it is live and no cell's.
 abbrev pub byte_in : Place → ℕ → Option ℕ

@@ -29,14 +29,14 @@ impl Flags {
         Ok(Flags { flags })
     }
 
-    /// Whether a flag is set; past the end none is.
+    /// Whether a flag is set; past the end each one counts as set.
     #[inline]
     pub(crate) fn get(&self, i: usize) -> bool
-        ensures { result ≡ slice_index_or self.now i false }
+        ensures { result ≡ slice_index_or self.now i true }
     {
         match self.flags.get(i) {
             Some(flag) => *flag,
-            None => false,
+            None => true,
         }
     }
 

@@ -7,6 +7,7 @@ pub mod laws;
 mod memory;
 mod offsets;
 mod place;
+mod table;
 #[cfg(test)]
 mod tests;
 

@@ -1,37 +1,45 @@
-ghost use Rattle.std.specs.Prelude.{◌≡◌, ◌*◌, ◌≤◌, ◌==◌, [], length, IfOk};
+ghost use Rattle.std.specs.Prelude.{◌≡◌, ◌*◌, ◌<◌, ◌≤◌, ◌==◌, [], length, IfOk, IfSome};
 ghost use Rattle.std.specs.Bool.{OnTrue};
 ghost use Rattle.std.specs.List.{list_any};
 ghost use Rattle.fb_base.specs.Shapes.{AreCells};
 ghost use Rattle.places.specs.Place.{cell_over};
 ghost use Rattle.places.specs.Calls.{same_numbers};
 
+use crate::table::Table;
 use fb_base::NoMemory;
 use std::alloc::Global;
 use std::marker::Model;
 
-/// Where the cells of a shape begin.
+/// Where the cells of a shape begin, with a table by which the cell of a byte is found by one look-up.
 #[derive(Debug, Drop)]
 pub(crate) struct Offsets {
     offsets: Vec<u64>,
+    table: Table,
 }
 
 impl Model for Offsets {
     ghost use Rattle.std.specs.Prelude.{List, ℕ};
+    ghost use Rattle.places.specs.Table.{IsTable};
 
     ghost Value = { List ℕ };
 
     ghost view = { λ o. o.offsets.items };
+
+    ghost invariant = { λ o. IsTable o.offsets.items o.table };
 }
 
 impl Offsets {
     /// The same offsets, of the cells of a shape with so many bytes.
     pub(crate) fn new(alloc: Global, offsets: &[u64], size: u64) -> Result<Offsets, NoMemory>
-        requires { AreCells size offsets.now }
+        requires cells { AreCells size offsets.now }
+        requires limit { size ≤ 16777216 }
         ensures ok { IfOk result (λ o. o ≡ offsets.now) }
         ensures few { length offsets.now * 24 ≤ size }
     {
+        let table = Table::new(alloc, offsets, size)?;
         Ok(Offsets {
             offsets: Vec::from_slice(alloc, offsets)?,
+            table,
         })
     }
 
@@ -58,16 +66,21 @@ impl Offsets {
     }
 
     /// Which cell has a byte.
+    #[inline]
     pub(crate) fn over(&self, o: u64) -> Option<usize>
-        ensures { result ≡ cell_over self.now o }
+        ensures number { result ≡ cell_over self.now o }
+        ensures within { IfSome result (λ k. k < length self.now) }
     {
-        self.offsets.iter().position(|c| *c <= o && o - *c < 24)
+        self.table.over(o)
     }
 
     /// Whether a cell begins at an offset.
     pub(crate) fn has(&self, o: u64) -> bool
         ensures { result ≡ list_any (λ c. c == o) self.now }
     {
-        self.offsets.contains(&o)
+        match self.over(o) {
+            Some(k) => self.offsets[k] == o,
+            None => false,
+        }
     }
 }
