@@ -1,0 +1,16 @@
+mod Exact
+mod Smallest
+mod Lists
+mod Dims
+mod Values
+mod Plain
+mod Printing
+mod Ended
+mod Bodies
+mod Parts
+mod Nested
+mod Stmts
+mod Heads
+mod Procs
+mod Types
+mod Whole

@@ -1,0 +1,10 @@
+pub mod Words
+pub mod Steps
+pub mod Variables
+pub mod Simple
+pub mod Blocks
+pub mod Procedures
+pub mod Module
+pub mod Phrases
+pub mod Statements
+pub mod Texts

@@ -1,0 +1,177 @@
+-- Types, and what a module is made of.
+use Rattle.std.specs.Prelude.{ℕ, ◌+◌, Bool, true, false, if◌then◌else◌, List, [], ◌∷◌, ◌++◌, Option, Some, None, Result, Ok, Err}
+use Rattle.fb_base.specs.declared.fault.Span.{Span}
+use Rattle.fb_base.specs.declared.fault.FaultKind.TheVariants.{Expected, ExtraText}
+use Rattle.fb_lexer.specs.TokenList.{TokenList}
+use Rattle.fb_lexer.specs.declared.token.Token.{Token}
+use Rattle.fb_lexer.specs.declared.token.Mark.TheVariants.{Equal}
+use Rattle.fb_lexer.specs.declared.word.Word.TheVariants as w
+use Rattle.fb_ast.specs.declared.part.Member.{Member}
+use Rattle.fb_ast.specs.declared.part.Member.TheVariants as member
+use Rattle.fb_ast.specs.declared.part.Item.{Item}
+use Rattle.fb_ast.specs.declared.part.Item.TheVariants as item
+use Rattle.fb_ast.specs.declared.stmt.Stmt.{Stmt}
+use Rattle.fb_ast.specs.declared.tree.Tree.{Tree}
+use Rattle.parse_expr.specs.declared.stop.Stop.TheVariants.{Fault}
+use Rattle.parse_expr.specs.declared.stop.ParseErr.{ParseErr}
+use Rattle.parse_expr.specs.Reading.{Reader, Outcome, first, next, sees, sees_word, expect_word, pure, refuse, ◌>>=◌, ◌>>◌, take_token}
+use Rattle.parse_expr.specs.Types.{type_name, name}
+use Rattle.parse_expr.specs.Expr.{error_of}
+use Rattle.parse_stmt.specs.declared.kinds.Level.TheVariants as levels
+use Rattle.parse_stmt.specs.declared.kinds.Line.TheVariants as lines
+use Rattle.parse_stmt.specs.declared.kinds.ProcedureWord.{ProcedureWord}
+use Rattle.parse_stmt.specs.declared.kinds.ProcedureWord.TheVariants as words
+use Rattle.parse_stmt.specs.declared.kinds.Found.{Found}
+use Rattle.parse_stmt.specs.Steps.{place_at, here, words_before, sees_sep, sep, sees_name, Turn, all_of}
+use Rattle.parse_stmt.specs.Variables.{any_bounds}
+use Rattle.parse_stmt.specs.Blocks.{stmt}
+use Rattle.parse_stmt.specs.Procedures.{any_params, no_params, one_param, declared_head, declared, procedure}
+
+-- ---- Types
+
+unfoldable pub field : Reader Member
+field = do
+  n ← name
+  b ← any_bounds
+  expect_word w.KwAs
+  pure (member.Field n b (← type_name))
+
+-- behind Declare Operator
+unfoldable pub let_member : Span → Reader Member
+let_member at = do
+  let_at ← here
+  expect_word w.KwLet
+  pure (member.Let at let_at (← one_param true))
+
+unfoldable pub constructor_member : Span → Reader Member
+constructor_member at = do
+  word_at ← here
+  take_token
+  pure (member.Constructor at word_at (← any_params true))
+
+unfoldable pub destructor_member : Span → Reader Member
+destructor_member at = do
+  word_at ← here
+  take_token
+  no_params
+  pure (member.Destructor at word_at)
+
+unfoldable pub head_member : Span → Reader Member
+head_member at = do
+  h ← declared_head
+  pure (member.Declare at h)
+
+-- behind Declare in a Type
+unfoldable pub declared_member : Span → Reader Member
+declared_member at = λ ts.
+    if sees_word w.KwConstructor ts then constructor_member at ts
+    else if sees_word w.KwDestructor ts then destructor_member at ts
+    else if sees_word w.KwOperator ts then let_member at (next ts)
+    else head_member at ts
+
+-- a field or a Declare
+unfoldable pub one_member : Reader Member
+one_member = λ ts.
+    if sees_word w.KwDeclare ts then declared_member (place_at ts) (next ts)
+    else if sees_name ts then field ts
+    else refuse ts
+
+unfoldable pub ended_member : List Member → Member → Reader (List Member × Bool)
+ended_member found x = sep lines.Free >> pure (found ++ x ∷ [], true)
+
+abbrev pub is_field : Member → Bool
+is_field (member.Field _ _ _) = true
+is_field other = false
+
+unfoldable pub has_field : List Member → Bool
+has_field [] = false
+has_field (m ∷ ms) = if is_field m then true else has_field ms
+
+-- a Type has a field at least
+unfoldable pub member_turn : Turn (List Member)
+member_turn found = λ ts.
+    if sees_word w.KwEnd ts then (if has_field found then Ok ((found, false), ts) else Err (Fault Expected, ts))
+    else (one_member >>= ended_member found) ts
+
+unfoldable pub members : Reader (List Member)
+members = all_of member_turn []
+
+-- a Type from its word on up to the word behind End
+unfoldable pub type_def : Reader Item
+type_def = do
+  at ← here
+  take_token
+  n ← name
+  sep lines.Free
+  all ← members
+  expect_word w.KwEnd
+  expect_word w.KwType
+  pure (item.Type at n all)
+
+-- ---- the module
+
+unfoldable pub declare : Reader Item
+declare = do
+  at ← here
+  take_token
+  declared at
+
+-- The end of the text ends what stands at the module's level, too.
+abbrev pub ended_by : Option Token → Reader (Unit {0})
+ended_by None = pure tt
+ended_by (Some t) = sep lines.Free
+
+unfoldable pub ended_item : Found → Item → Reader (Found × Bool)
+ended_item found x = (λ ts. ended_by (first ts) ts) >> pure (record { items = found.items ++ x ∷ []; tokens = found.tokens }, true)
+
+-- a statement, and how many tokens it has
+unfoldable pub main_stmt : Reader (Stmt × ℕ)
+main_stmt = λ ts. (stmt 200 (record { level = levels.Module; line = lines.Free; other = ExtraText }) >>= (λ x rest. Ok ((x, words_before ts rest), rest))) ts
+
+unfoldable pub ended_stmt : Found → Stmt × ℕ → Reader (Found × Bool)
+ended_stmt found x = (λ ts. ended_by (first ts) ts) >> pure (record { items = found.items ++ item.Stmt x.0 ∷ []; tokens = found.tokens + x.1 }, true)
+
+-- Function begins a procedure, unless `=` stands behind it
+unfoldable pub function_begins : List Token → Bool
+function_begins ts = if sees_word w.KwFunction ts then (if sees Equal (next ts) then false else true) else false
+
+-- the word that a procedure begins with, if one comes next
+unfoldable pub procedure_word : List Token → Option ProcedureWord
+procedure_word ts =
+    if sees_word w.KwSub ts then Some words.Sub
+    else if function_begins ts then Some words.Function
+    else if sees_word w.KwConstructor ts then Some words.Constructor
+    else if sees_word w.KwDestructor ts then Some words.Destructor
+    else if sees_word w.KwOperator ts then Some words.Operator
+    else None
+
+abbrev pub item_by : Found → Option ProcedureWord → Reader (Found × Bool)
+item_by found None = main_stmt >>= ended_stmt found
+item_by found (Some word) = procedure word >>= ended_item found
+
+unfoldable pub one_item : Found → Reader (Found × Bool)
+one_item found = λ ts.
+    if sees_word w.KwDeclare ts then (declare >>= ended_item found) ts
+    else if sees_word w.KwType ts then (type_def >>= ended_item found) ts
+    else item_by found (procedure_word ts) ts
+
+unfoldable pub more_items : Found → Reader (Found × Bool)
+more_items found = λ ts. if sees_sep lines.Free ts then Ok ((found, true), next ts) else one_item found ts
+
+abbrev pub item_at : Found → Option Token → Reader (Found × Bool)
+item_at found None = pure (found, false)
+item_at found (Some t) = more_items found
+
+unfoldable pub item_turn : Turn Found
+item_turn found = λ ts. item_at found (first ts) ts
+
+unfoldable pub module_ : Reader Found
+module_ = all_of item_turn (record { items = []; tokens = 0 })
+
+abbrev pub told : TokenList → Outcome Found → Result Tree ParseErr
+told tokens (Ok p) = Ok (record { items = p.0.items; tokens = p.0.tokens; last_line = tokens.last_line })
+told tokens (Err e) = Err (error_of tokens.items e.0 e.1)
+
+-- The tree of a text's tokens, or the first fault.
+abbrev pub tree_of : TokenList → Result Tree ParseErr
+tree_of tokens = told tokens (module_ tokens.items)

@@ -1,0 +1,391 @@
+-- The grammar of statements (FreeBASIC Manual, Statements and Control Flow).
+use Rattle.std.specs.Prelude.{◌≡◌, ℕ, zero, suc, Bool, true, false, if◌then◌else◌, List, [], ◌∷◌, Option, Some, None, ◌⊎◌}
+use Rattle.fb_base.specs.declared.fault.Span.{Span}
+use Rattle.fb_lexer.specs.declared.token.Token.{Token}
+use Rattle.fb_lexer.specs.declared.token.Mark.TheVariants.{Open, Close, OpenBracket, CloseBracket, Equal, Semicolon, Comma}
+use Rattle.fb_lexer.specs.declared.word.Word.{Word}
+use Rattle.fb_lexer.specs.declared.word.Word.TheVariants as w
+use Rattle.fb_ast.specs.declared.expr.Expr.{Expr}
+use Rattle.fb_ast.specs.declared.operator.Assignment.{Assignment}
+use Rattle.fb_ast.specs.declared.operator.CallWord.{CallWord}
+use Rattle.fb_ast.specs.declared.part.Bounds.{Bounds}
+use Rattle.fb_ast.specs.declared.part.Name.{Name}
+use Rattle.fb_ast.specs.declared.ty.TypeName.{TypeName}
+use Rattle.fb_ast.specs.declared.stmt.Storage.{Storage}
+use Rattle.fb_ast.specs.declared.stmt.Storage.TheVariants as storage
+use Rattle.fb_ast.specs.declared.stmt.Var.{Var}
+use Rattle.fb_ast.specs.declared.stmt.Listed.{Listed as SharedVar}
+use Rattle.fb_ast.specs.declared.stmt.Printed.{Printed}
+use Rattle.fb_ast.specs.declared.stmt.Printed.TheVariants as printed
+use Rattle.fb_ast.specs.declared.stmt.Test.{Test}
+use Rattle.fb_ast.specs.declared.stmt.Case.{Case}
+use Rattle.fb_ast.specs.declared.stmt.Case.TheVariants as case
+use Rattle.fb_ast.specs.declared.stmt.Cases.{Cases}
+use Rattle.fb_ast.specs.declared.stmt.Cases.TheVariants as cases
+use Rattle.fb_ast.specs.declared.stmt.Block.{Block, roll-Block}
+use Rattle.fb_ast.specs.declared.stmt.Branch.{Branch, roll-Branch}
+use Rattle.fb_ast.specs.declared.stmt.CaseBranch.{CaseBranch, roll-CaseBranch}
+use Rattle.fb_ast.specs.declared.stmt.Stmt.{Stmt}
+use Rattle.fb_ast.specs.declared.stmt.Stmt.TheVariants as s
+use Rattle.parse_expr.specs.Reading.{first, next, sees, sees_word}
+use Rattle.parse_stmt.specs.declared.kinds.Level.{Level}
+use Rattle.parse_stmt.specs.declared.kinds.Line.{Line}
+use Rattle.parse_stmt.specs.declared.kinds.Line.TheVariants as lines
+use Rattle.parse_stmt.specs.declared.kinds.Lead.{Lead}
+use Rattle.parse_stmt.specs.declared.kinds.Lead.TheVariants as leads
+use Rattle.parse_stmt.specs.Words.{level_within, line_within, lead_of}
+use Rattle.parse_stmt.specs.Steps.{place_at, last_before, sees_sep}
+use Rattle.parse_stmt.specs.Variables.{may_share}
+use Rattle.parse_stmt.specs.Simple.{assignment_at, is_call, exit_at, continue_at}
+use Rattle.parse_stmt.specs.Blocks.{until_at, comparison_at}
+use Rattle.parse_stmt.specs.Phrases.{Phrase, gives, ◌>>=◌, ◌>>◌, either, maybe, behind_mark, behind_word, before, mark, word, Listed, any_token, here, sep, name, ty, expression, place}
+
+-- ---- variables
+
+-- `expr [ To expr ] )`
+abbrev pub bounds : Phrase Bounds
+bounds = do
+  one ← expression
+  b ← either (do word w.KwTo; high ← expression; gives (record { low = Some one; high = high })) (gives (record { low = None; high = one }))
+  mark Close
+  gives b
+
+-- a variable with its type
+abbrev pub var : Phrase Var
+var = do
+  n ← name
+  b ← behind_mark Open bounds
+  word w.KwAs
+  t ← ty
+  init ← behind_mark Equal expression
+  gives (record { name = n; bounds = b; ty = t; init = init })
+
+-- a variable behind the type that all share
+abbrev pub shared_var : Phrase SharedVar
+shared_var = do
+  n ← name
+  b ← behind_mark Open bounds
+  init ← behind_mark Equal expression
+  gives (record { name = n; bounds = b; init = init })
+
+abbrev pub variables : Span → Storage → Phrase Stmt
+variables at where_ = either
+    (do word w.KwAs; t ← ty; all ← Listed shared_var; gives (s.DimAs at where_ t all))
+    (do all ← Listed var; gives (s.Dim at where_ all))
+
+-- Dim Shared stands at the module's level alone.
+abbrev pub dim_with : Bool → Span → Phrase Stmt
+dim_with true at = either (word w.KwShared >> variables at storage.Shared) (variables at storage.Scope)
+dim_with false at = variables at storage.Scope
+
+abbrev pub constant : Span → Phrase Stmt
+constant at = do
+  n ← name
+  t ← behind_word w.KwAs ty
+  mark Equal
+  x ← expression
+  gives (s.Const at n t x)
+
+-- ---- assignments and calls
+
+-- a mark or a word that the table has
+pub record Chosen {A : Type 0} (table : Option Token → Option A) (ts : List Token) (a : A) (rest : List Token) : Type 0 where
+  pub is : table (first ts) ≡ Some a
+  pub behind : rest ≡ next ts
+
+-- `=`, or an operator and `=`, and its place
+abbrev pub assigns : Phrase (Assignment × Span)
+assigns = Chosen assignment_at
+
+abbrev pub values : Phrase (List Expr)
+values = either (Listed expression) (gives [])
+
+-- A name before its arguments takes a parenthesis or bracket behind it, and a member.
+abbrev pub is_alone : List Token → Bool
+is_alone ts = if sees Open ts then false else true
+
+-- a place that is assigned to
+abbrev pub assignment : Span → Phrase Stmt
+assignment at = do
+  left ← place
+  how ← assigns
+  x ← expression
+  gives (s.Assign at left how.0 how.1 x)
+
+abbrev pub call_only : Expr → Phrase Expr
+call_only x = λ ts y rest. (is_call x ≡ true) × (y ≡ x) × (rest ≡ ts)
+
+-- a call with parentheses
+abbrev pub call : Span → Phrase Stmt
+call at = do
+  x ← place
+  call_only x
+  gives (s.Call at x)
+
+-- a call without parentheses: no parenthesis follows the name
+abbrev pub call_name : Span → Phrase Stmt
+call_name at = do
+  n ← before is_alone name
+  all ← values
+  gives (s.CallName at n all)
+
+abbrev pub valued : Span → Phrase Stmt
+valued at = either (assignment at) (either (call at) (call_name at))
+
+-- a word that is called and gives nothing: with parentheses, or without
+abbrev pub call_word : Span → CallWord → Phrase Stmt
+call_word at which = λ ts x rest.
+    ((sees Open (next ts) ≡ true) × valued at ts x rest)
+    ⊎ ((sees Open (next ts) ≡ false) × (do any_token; all ← values; gives (s.CallWord at which all)) ts x rest)
+
+-- ---- input and output
+
+-- What Print prints. An expression may come next at the beginning, and behind a semicolon or a comma.
+pub data AllPrinted : Bool → List Token → List Printed → List Token → Type 0 where
+  nothing : (fresh : Bool) (ts : List Token) → AllPrinted fresh ts [] ts
+  semicolon : (fresh : Bool) (ts rest : List Token) (all : List Printed) → sees Semicolon ts ≡ true → AllPrinted true (next ts) all rest
+      → AllPrinted fresh ts (printed.Semicolon (place_at ts) ∷ all) rest
+  comma : (fresh : Bool) (ts rest : List Token) (all : List Printed) → sees Comma ts ≡ true → AllPrinted true (next ts) all rest
+      → AllPrinted fresh ts (printed.Comma (place_at ts) ∷ all) rest
+  value : (ts between rest : List Token) (x : Expr) (all : List Printed) → expression ts x between → AllPrinted false between all rest
+      → AllPrinted true ts (printed.Expr x ∷ all) rest
+
+-- ---- parts of loops and of Select
+
+-- the values of a counter: the first, the last, and the step
+abbrev pub range : Phrase (Expr × Expr × Option Expr)
+range = do
+  start ← expression
+  word w.KwTo
+  end ← expression
+  step ← behind_word w.KwStep expression
+  gives (start, end, step)
+
+-- a counter, its type if it is written, and its values
+abbrev pub for_head : Phrase (Name × Option TypeName × (Expr × Expr × Option Expr))
+for_head = do
+  n ← name
+  t ← behind_word w.KwAs ty
+  mark Equal
+  values ← range
+  gives (n, t, values)
+
+-- the test of a Do
+abbrev pub test : Phrase Test
+test = do
+  at ← here
+  which ← Chosen until_at
+  x ← expression
+  gives (record { at = at; word = which; condition = x })
+
+-- A Do has one test at most.
+abbrev pub last_test : Option Test → Phrase (Option Test)
+last_test None = maybe test
+last_test (Some other) = gives None
+
+abbrev pub one_case : Phrase Case
+one_case = either (do at ← here; word w.KwIs; which ← Chosen comparison_at; x ← expression; gives (case.Is at which x))
+    (do low ← expression; either (do word w.KwTo; high ← expression; gives (case.Range low high)) (gives (case.Value low)))
+
+abbrev pub all_cases : Phrase Cases
+all_cases = either (word w.KwElse >> gives cases.Else) (do all ← Listed one_case; gives (cases.List all))
+
+-- a phrase any number of times
+pub data Many {A : Type 0} (one : Phrase A) : List Token → List A → List Token → Type 0 where
+  none : (ts : List Token) → Many one ts [] ts
+  some : (ts between rest : List Token) (a : A) (all : List A) → one ts a between → Many one between all rest → Many one ts (a ∷ all) rest
+
+-- End and this word, and the place of End
+abbrev pub end_of : Word → Phrase Span
+end_of which = do
+  at ← here
+  word w.KwEnd
+  word which
+  gives at
+
+-- ---- statements with statements inside
+
+-- statements, each with an end, and further ends
+pub data Statements (one : Phrase Stmt) (line : Line) : List Token → List Stmt → List Token → Type 0 where
+  none : (ts : List Token) → Statements one line ts [] ts
+  blank : (ts rest : List Token) (all : List Stmt) → sees_sep line ts ≡ true → Statements one line (next ts) all rest → Statements one line ts all rest
+  some : (ts between rest : List Token) (x : Stmt) (all : List Stmt) → one ts x between → sees_sep line between ≡ true
+      → Statements one line (next between) all rest → Statements one line ts (x ∷ all) rest
+
+-- The statements of a one-line If, with colons between, up to the line's end or an Else: no colon follows.
+pub data Row (one : Phrase Stmt) : List Token → List Stmt → List Token → Type 0 where
+  last : (ts rest : List Token) (x : Stmt) → one ts x rest → sees_sep lines.Row rest ≡ false → Row one ts (x ∷ []) rest
+  another : (ts between rest : List Token) (x : Stmt) (all : List Stmt) → one ts x between → sees_sep lines.Row between ≡ true
+      → Row one (next between) all rest → Row one ts (x ∷ all) rest
+
+-- The statements inside stand for themselves, by where they stand in the module and in their line.
+module _ (inner : Level → Line → Phrase Stmt) where
+  -- a block, up to the place of what ends it
+  abbrev pub body : Level → Line → Phrase Block
+  body level line = do
+    all ← Statements (inner level line) line
+    end ← here
+    gives (roll-Block (record { stmts = all; end = end }))
+
+  -- ---- If
+
+  -- what is done then, up to the Else or the last token
+  abbrev pub then_row : Level → Phrase Block
+  then_row level = λ ts b rest. (all : List Stmt) × Row (inner level lines.Row) ts all rest
+      × (b ≡ roll-Block (record { stmts = all; end = if sees_word w.KwElse rest then place_at rest else last_before ts rest }))
+
+  abbrev pub else_row : Level → Phrase Block
+  else_row level = λ ts b rest. (all : List Stmt) × Row (inner level lines.Row) ts all rest
+      × (b ≡ roll-Block (record { stmts = all; end = last_before ts rest }))
+
+  -- An Else belongs to the innermost If that can take it.
+  abbrev pub row_other : Level → Phrase (Option (Span × Block))
+  row_other level = either (do at ← here; word w.KwElse; b ← else_row level; gives (Some (at, b)))
+      (before (λ rest. if sees_word w.KwElse rest then false else true) (gives None))
+
+  abbrev pub if_row : Span → Expr → Level → Phrase Stmt
+  if_row at condition level = do
+    one ← then_row level
+    other ← row_other level
+    gives (s.IfLine at condition one other)
+
+  abbrev pub branch : Span → Expr → Level → Line → Phrase Branch
+  branch at condition level line = do
+    b ← body level line
+    gives (roll-Branch (record { at = at; condition = condition; body = b }))
+
+  abbrev pub else_if : Level → Line → Phrase Branch
+  else_if level line = do
+    at ← here
+    word w.KwElseIf
+    condition ← expression
+    word w.KwThen
+    sep line
+    branch at condition level line
+
+  abbrev pub last_else : Level → Line → Phrase (Option (Span × Block))
+  last_else level line = either (do at ← here; word w.KwElse; b ← (sep line >> body level line); gives (Some (at, b))) (gives None)
+
+  abbrev pub if_block : Span → Expr → Level → Line → Phrase Stmt
+  if_block at condition level line = do
+    one ← branch at condition level line
+    more ← Many (else_if level line)
+    other ← last_else level line
+    end ← end_of w.KwIf
+    gives (s.If at (one ∷ more) other end)
+
+  -- In a block that is part of a one-line If no one-line If stands.
+  abbrev pub if_line : Line → Span → Expr → Level → Phrase Stmt
+  if_line lines.Free at condition level = if_row at condition level
+  if_line lines.Row at condition level = if_row at condition level
+  if_line lines.Inner at condition level = λ ts x rest. ⊥
+
+  abbrev pub if_ : Span → Level → Line → Phrase Stmt
+  if_ at level line = do
+    any_token
+    condition ← expression
+    word w.KwThen
+    either (sep line >> if_block at condition (level_within level) (line_within line)) (if_line line at condition (level_within level))
+
+  -- ---- loops
+
+  -- the body, and the name behind Next
+  abbrev pub for_tail : Level → Line → Phrase (Block × Option Name)
+  for_tail level line = do
+    sep line
+    b ← body level line
+    word w.KwNext
+    again ← maybe name
+    gives (b, again)
+
+  abbrev pub for_ : Span → Level → Line → Phrase Stmt
+  for_ at level line = do
+    any_token
+    head ← for_head
+    tail ← for_tail level line
+    gives (s.For at head.0 head.1 head.2.0 head.2.1 head.2.2 tail.0 tail.1)
+
+  abbrev pub while_ : Span → Level → Line → Phrase Stmt
+  while_ at level line = do
+    any_token
+    condition ← expression
+    sep line
+    b ← body level line
+    word w.KwWend
+    gives (s.While at condition b)
+
+  abbrev pub do_ : Span → Level → Line → Phrase Stmt
+  do_ at level line = do
+    any_token
+    one ← maybe test
+    sep line
+    b ← body level line
+    word w.KwLoop
+    other ← last_test one
+    gives (s.Do at one b other)
+
+  -- ---- Select and Scope
+
+  abbrev pub case_branch : Level → Line → Phrase CaseBranch
+  case_branch level line = do
+    at ← here
+    word w.KwCase
+    all ← all_cases
+    sep line
+    b ← body level line
+    gives (roll-CaseBranch (record { at = at; cases = all; body = b }))
+
+  abbrev pub select : Span → Level → Line → Phrase Stmt
+  select at level line = do
+    any_token
+    word w.KwCase
+    x ← expression
+    sep line
+    all ← Many (case_branch level line)
+    end ← end_of w.KwSelect
+    gives (s.Select at x all end)
+
+  abbrev pub scope : Span → Level → Line → Phrase Stmt
+  scope at level line = do
+    any_token
+    sep line
+    b ← body level line
+    end_of w.KwScope
+    gives (s.Scope at b)
+
+  -- ---- statements
+
+  -- a statement from its first token on, by what that is
+  abbrev pub led : Span → Level → Line → Lead → Phrase Stmt
+  led at level line leads.Dim = any_token >> dim_with (may_share level) at
+  led at level line leads.Static = any_token >> variables at storage.Static
+  led at level line leads.Const = any_token >> constant at
+  led at level line leads.Function = do any_token; mark Equal; x ← expression; gives (s.Result at x)
+  led at level line leads.Print = do any_token; all ← AllPrinted true; gives (s.Print at all)
+  led at level line leads.Line = do any_token; word w.KwInput; x ← place; gives (s.LineInput at x)
+  led at level line leads.If = if_ at level line
+  led at level line leads.For = for_ at (level_within level) (line_within line)
+  led at level line leads.While = while_ at (level_within level) (line_within line)
+  led at level line leads.Do = do_ at (level_within level) (line_within line)
+  led at level line leads.Select = select at (level_within level) (line_within line)
+  led at level line leads.Scope = scope at (level_within level) (line_within line)
+  led at level line leads.Exit = do any_token; which ← Chosen exit_at; gives (s.Exit at which)
+  led at level line leads.Continue = do any_token; which ← Chosen continue_at; gives (s.Continue at which)
+  led at level line leads.Return = do any_token; x ← maybe expression; gives (s.Return at x)
+  led at level line leads.Delete = do
+    any_token
+    all ← either (do mark OpenBracket; mark CloseBracket; gives true) (gives false)
+    x ← expression
+    gives (s.Delete at all x)
+  led at level line leads.End = do any_token; x ← maybe expression; gives (s.End at x)
+  led at level line (leads.Call which) = call_word at which
+  led at level line leads.Value = valued at
+  led at level line leads.Nothing = λ ts x rest. ⊥
+
+  abbrev pub statement : Level → Line → Phrase Stmt
+  statement level line = λ ts x rest. (t : Token) × (more : List Token) × (ts ≡ t ∷ more) × led t.at level line (lead_of level t.kind) ts x rest
+
+-- A statement that is at most so deep: those inside are at most one less deep.
+abbrev pub stmt : ℕ → Level → Line → Phrase Stmt
+stmt zero level line = λ ts x rest. ⊥
+stmt (suc room) level line = statement (stmt room) level line

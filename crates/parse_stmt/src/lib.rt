@@ -1,0 +1,12 @@
+//! Statements, procedures, Types and whole texts: their grammar, and how they are read.
+#![tactic(auto)]
+
+mod kinds;
+mod laws;
+
+pub use kinds::{
+    Closer, Found, Lead, Level, Line, ProcedureWord, Spot, assignment_of, comparison_of,
+    continue_of, ends_with_end, exit_of, is_sep, lead_of, level_within, line_within, operator_of,
+    until_of,
+};
+pub use laws::{one_text, texts_found, texts_read};
