@@ -100,7 +100,7 @@ assigns = Chosen assignment_at
 abbrev pub values : Phrase (List Expr)
 values = either (Listed expression) (gives [])
 
--- A name before its arguments takes a parenthesis or bracket behind it, and a member.
+-- No parenthesis comes next: a name takes one that does as the beginning of its arguments in parentheses.
 abbrev pub is_alone : List Token → Bool
 is_alone ts = if sees Open ts then false else true
 
