@@ -4,7 +4,7 @@ use Rattle.fb_lexer.specs.declared.token.Token.{Token}
 use Rattle.fb_lexer.specs.declared.token.TokenKind.{TokenKind}
 use Rattle.parse_expr.specs.Reading.{next, Reader, Outcome, and_then, pure}
 use Rattle.parse_expr.proofs.Sound.{Done, bind, by_test, map_done}
-use Rattle.parse_expr.proofs.Ends.{Suffixes}
+pub use Rattle.parse_expr.proofs.Ends.{Suffixes, same_end, end_of_end}
 use Rattle.parse_stmt.specs.Phrases.{Phrase, gives, Then, either, taken}
 
 -- what comes next
@@ -20,12 +20,6 @@ abbrev pub always : Follow
 always o = true
 
 -- ---- ends of lists of tokens
-
-pub same_end : (ts : List Token) → Suffixes ts ts
-same_end ts = record { front = []; is = refl }
-
-pub end_of_end : {a b c : List Token} → Suffixes a b → Suffixes b c → Suffixes a c
-end_of_end p q = record { front = q.front ++ p.front; is = q.is ∙ ap (λ xs. q.front ++ xs) p.is ∙ sym (append_assoc q.front p.front _) }
 
 pub leave_next : (ts : List Token) → Suffixes (next ts) ts
 unfolding next
