@@ -11,5 +11,5 @@ mod tests;
 
 pub use evaluate::{constant, value};
 pub use known::Known;
-pub use operate::{convert, number_type};
+pub use operate::{cast, convert, number_type};
 pub use outcome::{Constant, Outcome};

@@ -1,0 +1,3 @@
+pub mod Within
+pub mod Circles
+pub mod Stuck

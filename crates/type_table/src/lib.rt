@@ -1,0 +1,18 @@
+//! The Types of a module: how each is laid out, and the first fault among them.
+#![tactic(auto)]
+
+mod cycle;
+pub mod laws;
+mod layout;
+mod measure;
+mod members;
+mod row;
+mod scope;
+mod table;
+#[cfg(test)]
+mod tests;
+mod walk;
+
+pub use layout::{Align, Layout, Measure};
+pub use row::{Field, Range, Row};
+pub use table::{Table, TypeErr, of};
