@@ -1,3 +1,4 @@
 pub mod Within
 pub mod Circles
 pub mod Stuck
+pub mod CellLoops

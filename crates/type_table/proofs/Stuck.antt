@@ -1,8 +1,6 @@
 -- A Type that contains itself is never laid out.
-use Rattle.std.proofs.Common.{◌≡◌, ℕ, zero, suc, ◌⊎◌, inl, inr, Option, Some, None, List, [], ◌∷◌, map, get_or, refl, sym, ◌∙◌, ap, subst}
+use Rattle.std.proofs.Common.{◌≡◌, ℕ, zero, suc, ◌⊎◌, inl, inr, Some, List, [], ◌∷◌, map, get_or, refl, sym, ◌∙◌, ap, subst}
 use Rattle.std.specs.Prelude.{slice_get}
-use Rattle.fb_ast.specs.declared.ty.Ty.TheVariants as t
-use Rattle.type_table.specs.declared.layout.Layout.{Layout}
 use Rattle.type_table.specs.declared.layout.Measure.{Measure}
 use Rattle.type_table.specs.declared.layout.Measure.TheVariants.{Waits, Big, Fits}
 use Rattle.type_table.specs.declared.row.Field.{Field}

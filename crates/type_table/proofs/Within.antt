@@ -1,5 +1,5 @@
 -- The fields of a Type lie in order within it.
-use Rattle.std.proofs.Common.{◌≡◌, ℕ, zero, suc, ◌+◌, ◌*◌, ◌/◌, ◌%◌, ◌<◌, ◌≤◌, Bool, true, false, ◌||◌, nat_lt, cond, if◌then◌else◌, Option, Some, None, List, [], ◌∷◌, refl, sym, ◌∙◌, ap, subst, arith}
+use Rattle.std.proofs.Common.{◌≡◌, ℕ, ◌+◌, ◌*◌, ◌%◌, ◌≤◌, Bool, true, false, ◌||◌, nat_lt, if◌then◌else◌, Option, Some, None, List, [], ◌∷◌, refl, ap, subst, arith}
 use Rattle.std.proofs.lemmas.Bool.Decides.{nat_tests}
 use Rattle.fb_base.specs.declared.fault.Fault.{Fault}
 use Rattle.type_table.specs.declared.layout.Align.{Align}
@@ -9,7 +9,7 @@ use Rattle.type_table.specs.declared.layout.Measure.{Measure}
 use Rattle.type_table.specs.declared.layout.Measure.TheVariants.{Waits, Big, Fits}
 use Rattle.type_table.specs.declared.row.Field.{Field}
 use Rattle.type_table.specs.declared.row.Row.{Row}
-use Rattle.type_table.specs.Layouts.{bytes_of, round_up, larger, end_of, with_part, put, last_of, measured, put_fields, measure_before, first_measure, closed, type_measure}
+use Rattle.type_table.specs.Layouts.{bytes_of, round_up, larger, end_of, put, last_of, measured, put_fields, measure_before, first_measure, closed, type_measure}
 use Rattle.type_table.specs.Offsets.{size_of, align_of, offset_of, offsets, type_offsets, IsNext, LieInOrder, IsWhole}
 
 pub next_multiple : (align : Align) (n : ℕ) → IsNext align n (round_up align n)

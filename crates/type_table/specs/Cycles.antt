@@ -1,5 +1,5 @@
 -- Types that contain themselves. A pointer to a Type doesn't contain it.
-use Rattle.std.specs.Prelude.{◌≡◌, ℕ, zero, suc, ◌<◌, Bool, true, false, ◌||◌, ◌==◌, Option, Some, None, List, [], ◌∷◌, map, length, slice_index_or, slice_get}
+use Rattle.std.specs.Prelude.{◌≡◌, ℕ, zero, suc, Bool, false, ◌||◌, ◌==◌, Some, List, [], ◌∷◌, map, length, slice_index_or, slice_get}
 use Rattle.fb_ast.specs.declared.ty.Ty.{Ty}
 use Rattle.fb_ast.specs.declared.ty.Ty.TheVariants as t
 use Rattle.type_table.specs.declared.row.Field.{Field}

@@ -1,3 +1,4 @@
+pub mod Cells
 pub mod Cycles
 pub mod Layouts
 pub mod Members

@@ -20,7 +20,6 @@ use Rattle.const_values.specs.declared.outcome.Outcome.{Outcome}
 use Rattle.const_values.specs.declared.outcome.Outcome.TheVariants as o
 use Rattle.const_values.specs.Values.{value_of, cast, written_kind}
 use Rattle.type_table.specs.declared.row.Row.{Row}
-use Rattle.type_table.specs.declared.scope.Entry.{Entry}
 use Rattle.type_table.specs.declared.walk.Walk.{Walk}
 use Rattle.type_table.specs.Layouts.{type_measure}
 use Rattle.type_table.specs.Names.{entry_of, named_outcome, sized_outcome}

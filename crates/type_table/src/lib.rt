@@ -1,6 +1,7 @@
 //! The Types of a module: how each is laid out, and the first fault among them.
 #![tactic(auto)]
 
+mod cells;
 mod cycle;
 pub mod laws;
 mod layout;

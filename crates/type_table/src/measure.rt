@@ -28,8 +28,8 @@ const STRING: Layout = Layout {
     lives: true,
 };
 
-// The number of an array's last element, counted from 0; 0 for a single value.
-fn last(range: Option<Range>) -> u64
+/// The number of an array's last element, counted from 0; 0 for a single value.
+pub fn last(range: Option<Range>) -> u64
     ensures { result ≡ last_of range }
 {
     match range {
@@ -61,8 +61,8 @@ pub fn measured(known: &[Measure], ty: &Ty) -> Measure
     }
 }
 
-// What is known of a Type before its first field.
-fn first_measure(row: &Row) -> Measure
+/// What is known of a Type before its first field.
+pub fn first_measure(row: &Row) -> Measure
     ensures { result ≡ first_measure row.now }
 {
     match row.fault {

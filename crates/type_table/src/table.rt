@@ -1,4 +1,5 @@
 ghost use Rattle.std.specs.Prelude.{◌≡◌, IfOk};
+ghost use Rattle.type_table.specs.Cells.{shape_of};
 ghost use Rattle.type_table.specs.Layouts.{measured};
 ghost use Rattle.type_table.specs.Offsets.{size_of, align_of, lives_of};
 ghost use Rattle.type_table.specs.Tables.{
@@ -9,13 +10,14 @@ ghost use Rattle.type_table.specs.Tables.{
   Answers,
 };
 
+use crate::cells::type_cells;
 use crate::cycle::in_itself;
 use crate::layout::{Measure, bytes};
 use crate::measure::{measure_at, measured, measures};
 use crate::row::Row;
 use crate::walk::{Walk, type_names, walked};
 use fb_ast::{Tree, Ty};
-use fb_base::{Fault, FaultKind, NoMemory, Sequence, Span};
+use fb_base::{Fault, FaultKind, NoMemory, Sequence, Shape, Span};
 use sqlite_items::Items;
 use std::alloc::Global;
 
@@ -176,5 +178,17 @@ impl Table {
             Measure::Fits(layout) => layout.lives,
             Measure::Waits | Measure::Big => false,
         }
+    }
+
+    /// The shape of a place for a value of a type: its size, its alignment, and where its string cells begin, rising.
+    /// The error is want of memory.
+    pub fn shape(&self, alloc: Global, ty: &Ty) -> Result<Shape, NoMemory>
+        ensures { IfOk result (λ shape. shape ≡ shape_of self.now.rows self.now.known ty.now) }
+    {
+        Ok(Shape {
+            size: self.size(ty),
+            align: self.align(ty),
+            cells: type_cells(alloc, self.rows.as_slice(), self.known.as_slice(), ty)?,
+        })
     }
 }
