@@ -1,15 +1,14 @@
 -- Cells that are set.
-use Rattle.std.proofs.Common.{◌≡◌, ◌≢◌, ℕ, ◌+◌, ◌-◌, Bool, true, false, cond, List, length, set, Option, Some, None, is_some, refl, ap, sym, ◌∙◌, length-set}
+use Rattle.std.proofs.Common.{◌≡◌, ℕ, ◌+◌, ◌-◌, Bool, true, false, cond, set, Option, Some, None, is_some, refl, ap, sym, ◌∙◌, length-set}
 use Rattle.std.specs.List.{slice_get}
 use Rattle.std.specs.Option.{option_map, option_and_then}
 use Rattle.places.specs.declared.kinds.Cell.{Cell}
-use Rattle.places.specs.Place.{Place, cell_in, cell_with, cell_number, begins_cell, with_cell_in, is_alive}
+use Rattle.places.specs.Place.{Place, cell_in, cell_with, cell_number, begins_cell, with_cell_in}
 use Rattle.places.specs.Memory.{Places, place_of, with_place, number_of, offset_of, cell_at, next_number}
 use Rattle.places.specs.Calls.{with_cell}
 use Rattle.places.specs.Standing.{Stands}
 use Rattle.places.proofs.Seen.{set_cell_keeps_bytes, set_cell_keeps_live, set_cell_keeps_heads}
 use Rattle.places.proofs.OneCell.{set_cell_here, set_cell_elsewhere, cell_set}
-use Rattle.text_calls.specs.Answers.{KeepsRest}
 use Rattle.text_calls.specs.Carrying.{SetsOne}
 
 -- where a cell begins, one may be set

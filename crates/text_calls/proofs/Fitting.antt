@@ -1,5 +1,5 @@
 -- What a call comes to fits the strings.
-use Rattle.std.proofs.Common.{◌≡◌, ℕ, ◌+◌, ◌%◌, ◌<◌, Bool, true, false, cond, eqb, ltb, List, [], ◌++◌, length, get_or, replicate, Option, Some, None, refl, arith}
+use Rattle.std.proofs.Common.{◌≡◌, ℕ, ◌+◌, ◌%◌, ◌<◌, Bool, true, false, cond, eqb, ltb, List, [], ◌++◌, length, get_or, replicate, Option, Some, None, refl}
 use Rattle.std.specs.Prelude.{decimal}
 use Rattle.std.specs.List.{slice_get}
 use Rattle.std.proofs.lemmas.Bool.{ltb-true}
@@ -8,7 +8,7 @@ use Rattle.text_functions.specs.Functions.{is_below_one, left, right, mid, chr, 
 use Rattle.text_calls.specs.declared.outcome.Outcome.{Outcome}
 use Rattle.text_calls.specs.declared.outcome.Outcome.TheVariants.{Trapped, Gives, Makes, Sets, Puts, Drops}
 use Rattle.text_calls.specs.Strings.{Spot, no_cell, dead, holds, is_dead, text_of}
-use Rattle.text_calls.specs.Outcomes.{IsAlive, Fits}
+use Rattle.text_calls.specs.Outcomes.{Fits}
 use Rattle.text_calls.specs.Rows.{Strings, longest, into, on_text, from, limited, from_literal, at, str_init, str_drop, str_lit, str_copy, str_cat, str_set, str_cmp, str_len, str_left, str_right, str_mid, str_chr, str_asc, str_signed, str_unsigned, str_val, str_find, str_upper, str_lower, str_space, str_ltrim, str_rtrim, str_get, str_put, from_10, from_16, from_22, from_28, outcome_of}
 
 into_fits : (strings : Strings) (d : ℕ) (next : Outcome) → (strings d ≡ dead → Fits strings next) → Fits strings (into strings d next)

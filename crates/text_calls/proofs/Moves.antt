@@ -1,15 +1,14 @@
 -- One cell and its string change, and all others stay.
-use Rattle.std.proofs.Common.{◌≡◌, ◌≢◌, ℕ, ◌+◌, ◌-◌, ◌<◌, Bool, true, false, cond, ◌⊎◌, inl, inr, eqb, List, length, set, Option, Some, None, is_some, refl, ap, sym, subst, ◌∙◌, arith, eq-eqb, ne_eqb}
+use Rattle.std.proofs.Common.{◌≡◌, ◌≢◌, ℕ, ◌<◌, Bool, true, false, cond, ◌⊎◌, inl, inr, eqb, List, length, set, Option, Some, None, is_some, refl, ap, sym, subst, ◌∙◌, arith, eq-eqb, ne_eqb}
 use Rattle.std.proofs.lemmas.Bool.{false≢true, cases_eq}
 use Rattle.fb_base.specs.declared.shape.Desc.{Desc}
 use Rattle.places.specs.declared.kinds.Cell.{Cell}
 use Rattle.places.specs.Place.{is_alive}
 use Rattle.places.specs.Memory.{Places, cell_at}
-use Rattle.str_heap.specs.Payloads.{bytes_of, IsLive, IsApart, Keeps, Stores, Assigns, Changes, Releases}
-use Rattle.text_calls.specs.declared.outcome.Outcome.{Outcome}
+use Rattle.str_heap.specs.Payloads.{bytes_of, IsLive, IsApart, Keeps, Stores, Assigns, Changes}
 use Rattle.text_calls.specs.declared.outcome.Outcome.TheVariants.{Makes, Sets, Puts, Drops}
 use Rattle.text_calls.specs.Strings.{Spot, no_cell, dead, holds, spot_of, strings_of, AreKept}
-use Rattle.text_calls.specs.Outcomes.{with_spot, with_byte, after, IsAlive, Fits}
+use Rattle.text_calls.specs.Outcomes.{with_spot, with_byte, IsAlive, Fits}
 use Rattle.text_calls.specs.Answers.{KeepsRest, Leaves}
 use Rattle.text_calls.specs.Carrying.{SetsOne}
 

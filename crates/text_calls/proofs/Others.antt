@@ -1,5 +1,5 @@
 -- Other calls on memory leave alive cells and their descriptors.
-use Rattle.std.proofs.Common.{◌≡◌, ◌≢◌, ℕ, ◌-◌, ◌<◌, ◌≤◌, Bool, true, false, cond, ◌&&◌, ◌⊎◌, inl, inr, eqb, ltb, List, [], length, get_or, Option, Some, None, refl, ap, sym, ◌∙◌, arith}
+use Rattle.std.proofs.Common.{◌≡◌, ◌≢◌, ℕ, ◌-◌, ◌≤◌, Bool, true, false, cond, ◌&&◌, ◌⊎◌, inl, inr, eqb, ltb, List, [], get_or, Option, Some, None, refl, ap, sym, ◌∙◌, arith}
 use Rattle.std.specs.Option.{option_and_then}
 use Rattle.std.proofs.lemmas.Bool.{false≢true, cases_eq}
 use Rattle.fb_base.specs.Shapes.{IsShape}
@@ -8,10 +8,10 @@ use Rattle.places.specs.declared.kinds.Form.{Form}
 use Rattle.places.specs.declared.kinds.Cell.{Cell}
 use Rattle.places.specs.Place.{Head, size_of, cell_in, begins_cell, dead_cell}
 use Rattle.places.specs.Memory.{Places, no_places, place_at, number_of, offset_of, cell_at, next_number}
-use Rattle.places.specs.Calls.{made, new_head, new_cell, freed_if}
+use Rattle.places.specs.Calls.{made, new_head, freed_if}
 use Rattle.places.proofs.Seen.{freed_gone, freed_others, unused}
 use Rattle.places.proofs.New.{made_cells_here, made_cells}
-use Rattle.text_calls.specs.Strings.{AreKept, Uses, AllUsed}
+use Rattle.text_calls.specs.Strings.{AreKept, AllUsed}
 
 none_some : (x : Cell) → ◌≡◌ {A = Option Cell} None (Some x) → ⊥
 none_some x e = cc

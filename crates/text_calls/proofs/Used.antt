@@ -1,10 +1,10 @@
 -- No string of the heap is lost.
-use Rattle.std.proofs.Common.{◌≡◌, ◌≢◌, ℕ, ◌<◌, ◌≤◌, Bool, true, false, ◌⊎◌, inl, inr, List, [], length, set, Option, Some, None, refl, ap, sym, subst, ◌∙◌, arith}
-use Rattle.std.proofs.lemmas.Bool.{false≢true, cases_eq, cases_lt}
+use Rattle.std.proofs.Common.{◌≡◌, ◌≢◌, ℕ, ◌<◌, ◌≤◌, true, false, ◌⊎◌, inl, inr, List, [], length, Some, refl, ap, sym, subst, ◌∙◌, arith}
+use Rattle.std.proofs.lemmas.Bool.{cases_eq, cases_lt}
 use Rattle.fb_base.specs.declared.shape.Desc.{Desc}
 use Rattle.places.specs.declared.kinds.Cell.{Cell}
 use Rattle.places.specs.Memory.{Places, cell_at}
-use Rattle.str_heap.specs.Payloads.{bytes_at, bytes_of, IsElsewhere, Stores, Assigns, Changes, Releases}
+use Rattle.str_heap.specs.Payloads.{bytes_at, IsElsewhere, Stores, Assigns, Changes, Releases}
 use Rattle.text_calls.specs.Strings.{dead, strings_of, Uses, AllUsed}
 use Rattle.text_calls.specs.Carrying.{SetsOne}
 use Rattle.text_calls.proofs.Moves.{dead_not_alive}

@@ -1,6 +1,5 @@
 -- How a call answers.
-use Rattle.std.specs.Prelude.{◌≡◌, ℕ, true, false, List, Result, Ok, Err}
-use Rattle.places.specs.Place.{Head}
+use Rattle.std.specs.Prelude.{◌≡◌, ℕ, false, List, Result, Ok, Err}
 use Rattle.places.specs.Memory.{Places, byte_at, is_live, head_at, next_number}
 use Rattle.text_calls.specs.declared.outcome.Outcome.{Outcome}
 use Rattle.text_calls.specs.declared.outcome.Outcome.TheVariants.{Trapped}

@@ -1,5 +1,5 @@
 -- What a call does to one cell, in memory and heap.
-use Rattle.std.specs.Prelude.{◌≡◌, ◌≢◌, ℕ, true, List, Option, Some}
+use Rattle.std.specs.Prelude.{◌≡◌, ◌≢◌, ℕ, Some}
 use Rattle.places.specs.declared.kinds.Cell.{Cell}
 use Rattle.places.specs.Memory.{Places, cell_at}
 use Rattle.text_calls.specs.Answers.{KeepsRest}

@@ -1,5 +1,5 @@
 -- What a call comes to, and what the strings are afterwards.
-use Rattle.std.specs.Prelude.{◌≡◌, ℕ, ◌<◌, ◌==◌, Bool, true, false, if◌then◌else◌, List, [], length, slice_set, Option, Some, None}
+use Rattle.std.specs.Prelude.{◌≡◌, ℕ, ◌<◌, ◌==◌, Bool, true, false, if◌then◌else◌, List, length, slice_set}
 use Rattle.text_calls.specs.declared.outcome.Outcome.{Outcome}
 use Rattle.text_calls.specs.declared.outcome.Outcome.TheVariants.{Trapped, Gives, Makes, Sets, Puts, Drops}
 use Rattle.text_calls.specs.Strings.{Spot, no_cell, dead, holds}

@@ -1,7 +1,7 @@
 -- The string calls, one row a call (FreeBASIC Manual: Left, Right, Mid, Chr, Asc, Str, ValLng, InStr, UCase, LCase, Space,
 -- LTrim, RTrim). A row says what the call comes to by the strings that its arguments name. Arguments are checked in
 -- order: d has to be a cell that isn't alive, s, t, a, b and c alive ones.
-use Rattle.std.specs.Prelude.{ℕ, ◌+◌, ◌%◌, ◌==◌, nat_lt, true, false, if◌then◌else◌, List, [], ◌++◌, length, slice_index, slice_get, replicate, decimal, Option, Some, None}
+use Rattle.std.specs.Prelude.{ℕ, ◌+◌, ◌%◌, ◌==◌, nat_lt, if◌then◌else◌, List, [], ◌++◌, length, slice_index, slice_get, replicate, decimal, Option, Some, None}
 use Rattle.fb_base.specs.declared.fault.TrapKind.TheVariants.{BadString, StrIndex, StrLimit, BadCode}
 use Rattle.text_functions.specs.Functions.{is_below_one, left, right, mid, chr, asc, find, left_trimmed, right_trimmed, val, compared, signed_text, upper, lower}
 use Rattle.text_calls.specs.declared.outcome.Outcome.{Outcome}

@@ -9,6 +9,8 @@ mod outcome;
 mod plan;
 mod rows;
 mod spots;
+#[cfg(test)]
+mod tests;
 
 pub use call::text_call;
 pub use outcome::{Outcome, TextErr};
