@@ -1,0 +1,5 @@
+pub mod Strings
+pub mod Outcomes
+pub mod Rows
+pub mod Answers
+pub mod Carrying
