@@ -92,10 +92,10 @@ pub record Inside (inner : Spot → Reader Stmt) (room : ℕ) (Inner : Level →
   pub opens : (level : Level) (line : Line) (ts : List Token) (x : Stmt) (rest : List Token) → Inner level line ts x rest → closes (next_kind rest) ≡ true → Opens ts
   pub deep : (level : Level) (line : Line) (ts : List Token) (x : Stmt) (rest : List Token) → Inner level line ts x rest → (room == 0) ≡ false
 
-module _ (inner : Spot → Reader Stmt) (room : ℕ) (Inner : Level → Line → Phrase Stmt) (inside : Inside inner room Inner) where
+module _ (deep : ℕ) (inner : Spot → Reader Stmt) (room : ℕ) (Inner : Level → Line → Phrase Stmt) (inside : Inside inner room Inner) where
   module _ (level : Level) (line : Line) (closer : Closer) where
     abbrev turns_from : ℕ → List Stmt × Bool → Reader (List Stmt)
-    turns_from n q = if q.1 then repeat (block_turn inner room level line closer) n q.0 else pure q.0
+    turns_from n q = if q.1 then repeat (block_turn (suc deep) inner room level line closer) n q.0 else pure q.0
 
     record BlockRead (found : List Stmt) (ts : List Token) (all : List Stmt) (rest : List Token) : Type 0 where
       behind : List Stmt
@@ -111,15 +111,15 @@ module _ (inner : Spot → Reader Stmt) (room : ℕ) (Inner : Level → Line →
       behind : rest ≡ next between
       is : q ≡ (found ++ x ∷ [], true)
 
-    stmt_sound : (found : List Stmt) (ts : List Token) → Done (StmtRead found ts) (and_then (block_stmt inner room level line closer ts) (ended inner room line found))
+    stmt_sound : (found : List Stmt) (ts : List Token) → Done (StmtRead found ts) (and_then (block_stmt (suc deep) inner room level line closer ts) (ended (suc deep) inner room line found))
     unfolding block_stmt ended deep_end steps.sep
     stmt_sound found ts =
-        by_test (λ (o : Outcome Stmt). Done (StmtRead found ts) (and_then o (ended inner room line found))) (end_is_deep inner room closer ts) _ _ (λ is. tt)
-        (λ is. bind (Inner level line ts) (StmtRead found ts) (inner (record { level = level; line = line; other = ExtraText }) ts) (ended inner room line found) ((inside.exact level line ExtraText).sound ts)
+        by_test (λ (o : Outcome Stmt). Done (StmtRead found ts) (and_then o (ended (suc deep) inner room line found))) (end_is_deep (suc deep) inner room closer ts) _ _ (λ is. tt)
+        (λ is. bind (Inner level line ts) (StmtRead found ts) (inner (record { level = level; line = line; other = ExtraText }) ts) (ended (suc deep) inner room line found) ((inside.exact level line ExtraText).sound ts)
         (λ x between t. by_test (λ (o : Outcome (Unit {0})). Done (StmtRead found ts) (and_then o (λ u. pure (found ++ x ∷ [], true)))) (sees_sep line between) _ _
         (λ end. record { x = x; between = between; stands = t; end = end; behind = refl; is = refl }) (λ no. tt)))
 
-    block_sound : (n : ℕ) (found : List Stmt) (ts : List Token) → Done (BlockRead found ts) (repeat (block_turn inner room level line closer) n found ts)
+    block_sound : (n : ℕ) (found : List Stmt) (ts : List Token) → Done (BlockRead found ts) (repeat (block_turn (suc deep) inner room level line closer) n found ts)
     unfolding repeat block_turn
     block_sound zero found ts = tt
     block_sound (suc n) found ts =
@@ -127,12 +127,12 @@ module _ (inner : Spot → Reader Stmt) (room : ℕ) (Inner : Level → Line →
         (λ is. map_done (BlockRead found (next ts)) (BlockRead found ts) _ (block_sound n found (next ts)) (λ all rest r. record { behind = r.behind; is = r.is; are = blank ts rest r.behind is r.are; ends = r.ends }))
         (λ no_sep. by_test (λ (o : Outcome (List Stmt × Bool)). Done (BlockRead found ts) (and_then o (turns_from n))) (closed closer ts) _ _
         (λ is. record { behind = []; is = sym (append-nil found); are = none ts; ends = is })
-        (λ open_. bind (StmtRead found ts) (BlockRead found ts) (and_then (block_stmt inner room level line closer ts) (ended inner room line found)) (turns_from n) (stmt_sound found ts)
+        (λ open_. bind (StmtRead found ts) (BlockRead found ts) (and_then (block_stmt (suc deep) inner room level line closer ts) (ended (suc deep) inner room line found)) (turns_from n) (stmt_sound found ts)
         (λ q rest r. rw (r.is, r.behind) (map_done (BlockRead (found ++ r.x ∷ []) (next r.between)) (BlockRead found ts) _ (block_sound n (found ++ r.x ∷ []) (next r.between))
         (λ all left b. record { behind = r.x ∷ b.behind; is = b.is ∙ append_assoc found (r.x ∷ []) b.behind; are = some ts r.between left r.x b.behind r.stands r.end b.are; ends = b.ends })))))
 
     block_finds : (n : ℕ) (found : List Stmt) (ts : List Token) (all : List Stmt) (rest : List Token) → Statements (Inner level line) line ts all rest → closed closer rest ≡ true → length ts < n
-        → repeat (block_turn inner room level line closer) n found ts ≡ Ok (found ++ all, rest)
+        → repeat (block_turn (suc deep) inner room level line closer) n found ts ≡ Ok (found ++ all, rest)
     unfolding repeat block_turn block_stmt ended steps.sep end_is_deep
     block_finds zero found ts all rest b ends few = absurd (omega arith)
     block_finds (suc n) found ts all rest (none a) ends few = rw (closed_no_sep closer line rest ends, ends, append-nil found) refl
@@ -154,7 +154,7 @@ module _ (inner : Spot → Reader Stmt) (room : ℕ) (Inner : Level → Line →
     block_within ts all rest (some a between c x more t is b) =
         end_of_end (block_within (next between) more rest b) (end_of_end (leave_next between) ((inside.exact level line ExtraText).within ts x between t))
 
-    pub ended_block : Ended (block inner room level line closer) (Statements (Inner level line) line) (closed closer)
+    pub ended_block : Ended (block (suc deep) inner room level line closer) (Statements (Inner level line) line) (closed closer)
     unfolding block
     ended_block = record {
       sound = λ ts. map_done (BlockRead [] ts) (Statements (Inner level line) line ts) _ (block_sound (length ts + 1) [] ts) (λ all rest r. rw (r.is) (r.are));
@@ -163,15 +163,15 @@ module _ (inner : Spot → Reader Stmt) (room : ℕ) (Inner : Level → Line →
     }
 
     -- a reading of a block ends where the block does
-    pub block_ends : (ts : List Token) → Done (λ (all : List Stmt) rest. closed closer rest ≡ true) (block inner room level line closer ts)
+    pub block_ends : (ts : List Token) → Done (λ (all : List Stmt) rest. closed closer rest ≡ true) (block (suc deep) inner room level line closer ts)
     unfolding block
     block_ends ts = map_done (BlockRead [] ts) (λ (all : List Stmt) rest. closed closer rest ≡ true) _ (block_sound (length ts + 1) [] ts) (λ all rest r. r.ends)
 
-    pub ended_body : Ended (body inner room level line closer) (grammar.body Inner level line) (closed closer)
+    pub ended_body : Ended (body (suc deep) inner room level line closer) (grammar.body (suc deep) Inner level line) (closed closer)
     unfolding body
     ended_body = ended_then ended_block (λ all. ended_then (as_ended exact_here) (λ end. ended_gives (roll-Block (record { stmts = all; end = end })) (closed closer)) (λ end ts b rest t d. refl))
         (λ all ts b rest t d. ap (closed closer) (sym (t.back.1 ∙ t.front.1)) ∙ d)
 
-    pub body_ends : (ts : List Token) → Done (λ (b : Block) rest. closed closer rest ≡ true) (body inner room level line closer ts)
+    pub body_ends : (ts : List Token) → Done (λ (b : Block) rest. closed closer rest ≡ true) (body (suc deep) inner room level line closer ts)
     unfolding body
-    body_ends ts = bind (λ (all : List Stmt) rest. closed closer rest ≡ true) (λ (b : Block) rest. closed closer rest ≡ true) (block inner room level line closer ts) _ (block_ends ts) (λ all rest e. e)
+    body_ends ts = bind (λ (all : List Stmt) rest. closed closer rest ≡ true) (λ (b : Block) rest. closed closer rest ≡ true) (block (suc deep) inner room level line closer ts) _ (block_ends ts) (λ all rest e. e)

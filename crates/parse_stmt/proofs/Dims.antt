@@ -1,5 +1,5 @@
 -- Dim, Static and Const are read exactly.
-use Rattle.std.proofs.Common.{◌≡◌, ℕ, Bool, true, false, List, Some, None, refl, ap, ◌∙◌, inl, inr}
+use Rattle.std.proofs.Common.{◌≡◌, suc, ℕ, Bool, true, false, List, Some, None, refl, ap, ◌∙◌, inl, inr}
 use Rattle.fb_base.specs.declared.fault.Span.{Span}
 use Rattle.fb_lexer.specs.declared.token.Token.{Token}
 use Rattle.fb_lexer.specs.declared.token.TokenKind.TheVariants as kinds
@@ -92,11 +92,11 @@ pub under_closing : (F : Follow) → F (Some (kinds.Mark Close)) ≡ true → Un
 under_closing F a (Some (kinds.Mark Close)) is = a
 under_closing F a other is = cc
 
-pub bounds_exact : Exact reading.bounds grammar.bounds always
+pub bounds_exact : (deep : ℕ) → Exact (reading.bounds (suc deep)) (grammar.bounds (suc deep)) always
 unfolding reading.bounds reading.bounds_from
-bounds_exact = exact_then exact_whole
+bounds_exact deep = exact_then (exact_whole deep)
     (λ one. exact_then {F = closing}
-    (exact_behind (sees_word w.KwTo) (exact_weaker (exact_made (λ (high : Expr). record { low = Some one; high = high }) exact_whole) (under_closing ends_expression refl))
+    (exact_behind (sees_word w.KwTo) (exact_weaker (exact_made (λ (high : Expr). record { low = Some one; high = high }) (exact_whole deep)) (under_closing ends_expression refl))
     (exact_gives (record { low = None; high = one }) closing) (word_none (record { low = None; high = one }) w.KwTo closing refl))
     (λ b. exact_then (exact_mark Close) (λ u. exact_gives b always) (λ u. starts_gives b always always (always_under always)))
     (λ b. starts_mark Close (gives b) always closing refl))
@@ -104,20 +104,20 @@ bounds_exact = exact_then exact_whole
     (starts_either closing ends_expression (starts_word w.KwTo _ closing ends_expression refl) (starts_gives (record { low = None; high = one }) closing ends_expression (under_closing ends_expression refl)))
     (λ b. starts_mark Close (gives b) always closing refl))
 
-pub any_bounds_exact : (G : Follow) → G (Some (kinds.Mark Open)) ≡ false → Exact reading.any_bounds (behind_mark Open grammar.bounds) G
+pub any_bounds_exact : (deep : ℕ) → (G : Follow) → G (Some (kinds.Mark Open)) ≡ false → Exact (reading.any_bounds (suc deep)) (behind_mark Open (grammar.bounds (suc deep))) G
 unfolding reading.any_bounds
-any_bounds_exact G not = exact_behind_mark Open G (always_under G) not bounds_exact
+any_bounds_exact deep G not = exact_behind_mark Open G (always_under G) not (bounds_exact deep)
 
 pub any_type_exact : (G : Follow) → Under G no_pointer → G (Some (kinds.Word w.KwAs)) ≡ false → Exact any_type (behind_word w.KwAs ty) G
 unfolding any_type
 any_type_exact G under not = exact_behind_word w.KwAs G under not exact_type
 
-pub initial_exact : Exact initial (behind_mark Equal expression) comma_or_end
+pub initial_exact : (deep : ℕ) → Exact (initial (suc deep)) (behind_mark Equal (expression (suc deep))) comma_or_end
 unfolding initial
-initial_exact = exact_behind_mark Equal comma_or_end comma_expression refl exact_whole
+initial_exact deep = exact_behind_mark Equal comma_or_end comma_expression refl (exact_whole deep)
 
-initial_starts : (F : Follow) → F (Some (kinds.Mark Equal)) ≡ true → Under comma_or_end F → Starts (behind_mark Equal expression) comma_or_end F
-initial_starts F is under = starts_either comma_or_end F (starts_mark Equal _ comma_or_end F is) (starts_gives None comma_or_end F under)
+initial_starts : (deep : ℕ) → (F : Follow) → F (Some (kinds.Mark Equal)) ≡ true → Under comma_or_end F → Starts (behind_mark Equal (expression (suc deep))) comma_or_end F
+initial_starts deep F is under = starts_either comma_or_end F (starts_mark Equal _ comma_or_end F is) (starts_gives None comma_or_end F under)
 
 comma_pointer : Under comma_or_end no_pointer
 comma_pointer = under_comma no_pointer refl (under_closes no_pointer refl refl refl refl)
@@ -131,29 +131,29 @@ abbrev as_next : Follow
 as_next (Some (kinds.Word w.KwAs)) = true
 as_next other = false
 
-pub var_exact : Exact reading.var grammar.var comma_or_end
+pub var_exact : (deep : ℕ) → Exact (reading.var (suc deep)) (grammar.var (suc deep)) comma_or_end
 unfolding reading.var
-var_exact = exact_then exact_name (λ n. exact_then (any_bounds_exact as_next refl) (λ b. exact_then (exact_word w.KwAs) (λ u. exact_then exact_type
-    (λ t. exact_made (λ init. record { name = n; bounds = b; ty = t; init = init }) initial_exact)
-    (λ t. starts_then comma_or_end comma_or_end no_pointer (initial_starts no_pointer refl comma_pointer) (λ init. starts_gives _ comma_or_end comma_or_end (same_under comma_or_end))))
+var_exact deep = exact_then exact_name (λ n. exact_then (any_bounds_exact deep as_next refl) (λ b. exact_then (exact_word w.KwAs) (λ u. exact_then exact_type
+    (λ t. exact_made (λ init. record { name = n; bounds = b; ty = t; init = init }) (initial_exact deep))
+    (λ t. starts_then comma_or_end comma_or_end no_pointer (initial_starts deep no_pointer refl comma_pointer) (λ init. starts_gives _ comma_or_end comma_or_end (same_under comma_or_end))))
     (λ u ts a rest t f. refl))
     (λ b. starts_word w.KwAs _ comma_or_end as_next refl))
     (λ n ts a rest t f. refl)
 
-pub shared_var_exact : Exact reading.listed grammar.shared_var comma_or_end
+pub shared_var_exact : (deep : ℕ) → Exact (reading.listed (suc deep)) (grammar.shared_var (suc deep)) comma_or_end
 unfolding reading.listed
-shared_var_exact = exact_then exact_name (λ n. exact_then (any_bounds_exact (λ o. initial_or_end o) refl)
-    (λ b. exact_made (λ init. record { name = n; bounds = b; init = init }) initial_exact)
-    (λ b. starts_then comma_or_end comma_or_end (λ o. initial_or_end o) (initial_starts (λ o. initial_or_end o) refl under_initial) (λ init. starts_gives _ comma_or_end comma_or_end (same_under comma_or_end))))
+shared_var_exact deep = exact_then exact_name (λ n. exact_then (any_bounds_exact deep (λ o. initial_or_end o) refl)
+    (λ b. exact_made (λ init. record { name = n; bounds = b; init = init }) (initial_exact deep))
+    (λ b. starts_then comma_or_end comma_or_end (λ o. initial_or_end o) (initial_starts deep (λ o. initial_or_end o) refl under_initial) (λ init. starts_gives _ comma_or_end comma_or_end (same_under comma_or_end))))
     (λ n ts a rest t f. refl)
 
-pub vars_exact : Exact reading.vars (Listed grammar.var) closes
+pub vars_exact : (deep : ℕ) → Exact (reading.vars (suc deep)) (Listed (grammar.var (suc deep))) closes
 unfolding reading.vars reading.var_turn
-vars_exact = exact_list reading.var grammar.var comma_or_end closes var_exact closes_comma refl refl
+vars_exact deep = exact_list (reading.var (suc deep)) (grammar.var (suc deep)) comma_or_end closes (var_exact deep) closes_comma refl refl
 
-pub all_listed_exact : Exact reading.all_listed (Listed grammar.shared_var) closes
+pub all_listed_exact : (deep : ℕ) → Exact (reading.all_listed (suc deep)) (Listed (grammar.shared_var (suc deep))) closes
 unfolding reading.all_listed reading.listed_turn
-all_listed_exact = exact_list reading.listed grammar.shared_var comma_or_end closes shared_var_exact closes_comma refl refl
+all_listed_exact deep = exact_list (reading.listed (suc deep)) (grammar.shared_var (suc deep)) comma_or_end closes (shared_var_exact deep) closes_comma refl refl
 
 -- ---- Dim and Static
 
@@ -161,46 +161,46 @@ pub name_no_word : (which : Word) (ts : List Token) (n : Name) (rest : List Toke
 unfolding sees_word first
 name_no_word which ts n rest t = rw (t.is, t.kind) refl
 
-var_no_word : (which : Word) (ts : List Token) (all : List Var) (rest : List Token) → Listed grammar.var ts all rest → sees_word which ts ≡ false
-var_no_word which ts all rest (last a b x t) = name_no_word which ts t.given t.between t.front
-var_no_word which ts all rest (another a between b x behind t comma l) = name_no_word which ts t.given t.between t.front
+var_no_word : (deep : ℕ) → (which : Word) (ts : List Token) (all : List Var) (rest : List Token) → Listed (grammar.var (suc deep)) ts all rest → sees_word which ts ≡ false
+var_no_word deep which ts all rest (last a b x t) = name_no_word which ts t.given t.between t.front
+var_no_word deep which ts all rest (another a between b x behind t comma l) = name_no_word which ts t.given t.between t.front
 
 pub next_name : (ts : List Token) (n : Name) (rest : List Token) (t : IsName ts n rest) → next_kind ts ≡ Some (kinds.Name t.text)
 next_name ts n rest t = ap next_kind t.is ∙ ap Some t.kind
 
-names_first : (F : Follow) → ((text : List ℕ) → F (Some (kinds.Name text)) ≡ true) → (ts : List Token) (all : List SharedVar) (rest : List Token) → Listed grammar.shared_var ts all rest → F (next_kind ts) ≡ true
-names_first F names ts all rest (last a b x t) = ap F (next_name ts t.given t.between t.front) ∙ names t.front.text
-names_first F names ts all rest (another a between b x behind t comma l) = ap F (next_name ts t.given t.between t.front) ∙ names t.front.text
+names_first : (deep : ℕ) → (F : Follow) → ((text : List ℕ) → F (Some (kinds.Name text)) ≡ true) → (ts : List Token) (all : List SharedVar) (rest : List Token) → Listed (grammar.shared_var (suc deep)) ts all rest → F (next_kind ts) ≡ true
+names_first deep F names ts all rest (last a b x t) = ap F (next_name ts t.given t.between t.front) ∙ names t.front.text
+names_first deep F names ts all rest (another a between b x behind t comma l) = ap F (next_name ts t.given t.between t.front) ∙ names t.front.text
 
-listed_starts : (F : Follow) → ((text : List ℕ) → F (Some (kinds.Name text)) ≡ true) → (K : List SharedVar → Phrase Stmt) → Starts (Then (Listed grammar.shared_var) K) closes F
-listed_starts F names K ts x rest t f = names_first F names ts t.given t.between t.front
+listed_starts : (deep : ℕ) → (F : Follow) → ((text : List ℕ) → F (Some (kinds.Name text)) ≡ true) → (K : List SharedVar → Phrase Stmt) → Starts (Then (Listed (grammar.shared_var (suc deep))) K) closes F
+listed_starts deep F names K ts x rest t f = names_first deep F names ts t.given t.between t.front
 
-variables_exact : (at : Span) (where_ : Storage) → Exact (reading.dim_behind at where_) (grammar.variables at where_) closes
+variables_exact : (deep : ℕ) → (at : Span) (where_ : Storage) → Exact (reading.dim_behind (suc deep) at where_) (grammar.variables (suc deep) at where_) closes
 unfolding reading.dim_behind reading.dim_as reading.dim_vars
-variables_exact at where_ = exact_behind (sees_word w.KwAs)
-    (exact_then exact_type (λ t. exact_made (λ all. s.DimAs at where_ t all) all_listed_exact) (λ t. listed_starts no_pointer (λ text. refl) _))
-    (exact_made (λ all. s.Dim at where_ all) vars_exact) (λ ts x rest t f. var_no_word w.KwAs ts t.given t.between t.front)
+variables_exact deep at where_ = exact_behind (sees_word w.KwAs)
+    (exact_then exact_type (λ t. exact_made (λ all. s.DimAs at where_ t all) (all_listed_exact deep)) (λ t. listed_starts deep no_pointer (λ text. refl) _))
+    (exact_made (λ all. s.Dim at where_ all) (vars_exact deep)) (λ ts x rest t f. var_no_word deep w.KwAs ts t.given t.between t.front)
 
-pub static_exact : (at : Span) → Exact (reading.static_ at) (any_token >> grammar.variables at storage.Static) closes
+pub static_exact : (deep : ℕ) → (at : Span) → Exact (reading.static_ (suc deep) at) (any_token >> grammar.variables (suc deep) at storage.Static) closes
 unfolding reading.static_
-static_exact at = exact_then exact_any (λ u. variables_exact at storage.Static) (λ u ts a rest t f. refl)
+static_exact deep at = exact_then exact_any (λ u. variables_exact deep at storage.Static) (λ u ts a rest t f. refl)
 
-variables_no_shared : (at : Span) (where_ : Storage) (ts : List Token) (x : Stmt) (rest : List Token) → grammar.variables at where_ ts x rest → sees_word w.KwShared ts ≡ false
-variables_no_shared at where_ ts x rest (inl t) = no_word w.KwShared as_next ts refl (ap as_next (next_word w.KwAs ts t.front.0)) (sees_word w.KwShared ts) refl
-variables_no_shared at where_ ts x rest (inr t) = var_no_word w.KwShared ts t.given t.between t.front
+variables_no_shared : (deep : ℕ) → (at : Span) (where_ : Storage) (ts : List Token) (x : Stmt) (rest : List Token) → grammar.variables (suc deep) at where_ ts x rest → sees_word w.KwShared ts ≡ false
+variables_no_shared deep at where_ ts x rest (inl t) = no_word w.KwShared as_next ts refl (ap as_next (next_word w.KwAs ts t.front.0)) (sees_word w.KwShared ts) refl
+variables_no_shared deep at where_ ts x rest (inr t) = var_no_word deep w.KwShared ts t.given t.between t.front
 
-dim_with_exact : (b : Bool) (at : Span) → Exact (reading.dim_by b at) (grammar.dim_with b at) closes
-dim_with_exact true at = exact_behind (sees_word w.KwShared) (variables_exact at storage.Shared) (variables_exact at storage.Scope) (λ ts x rest t f. variables_no_shared at storage.Scope ts x rest t)
-dim_with_exact false at = variables_exact at storage.Scope
+dim_with_exact : (deep : ℕ) → (b : Bool) (at : Span) → Exact (reading.dim_by (suc deep) b at) (grammar.dim_with (suc deep) b at) closes
+dim_with_exact deep true at = exact_behind (sees_word w.KwShared) (variables_exact deep at storage.Shared) (variables_exact deep at storage.Scope) (λ ts x rest t f. variables_no_shared deep at storage.Scope ts x rest t)
+dim_with_exact deep false at = variables_exact deep at storage.Scope
 
-pub dim_exact : (at : Span) (level : Level) → Exact (reading.dim at level) (any_token >> grammar.dim_with (may_share level) at) closes
+pub dim_exact : (deep : ℕ) → (at : Span) (level : Level) → Exact (reading.dim (suc deep) at level) (any_token >> grammar.dim_with (suc deep) (may_share level) at) closes
 unfolding reading.dim
-dim_exact at level = exact_then exact_any (λ u. dim_with_exact (may_share level) at) (λ u ts a rest t f. refl)
+dim_exact deep at level = exact_then exact_any (λ u. dim_with_exact deep (may_share level) at) (λ u ts a rest t f. refl)
 
-pub constant_exact : (at : Span) → Exact (reading.constant at) (any_token >> grammar.constant at) closes
+pub constant_exact : (deep : ℕ) → (at : Span) → Exact (reading.constant (suc deep) at) (any_token >> grammar.constant (suc deep) at) closes
 unfolding reading.constant
-constant_exact at = exact_then exact_any (λ u. exact_then exact_name (λ n. exact_then (any_type_exact equals (under_equals no_pointer refl) refl) (λ t. exact_then (exact_mark Equal)
-    (λ u. exact_weaker (exact_made (λ x. s.Const at n t x) exact_whole) closes_expression) (λ u ts a rest t f. refl))
+constant_exact deep at = exact_then exact_any (λ u. exact_then exact_name (λ n. exact_then (any_type_exact equals (under_equals no_pointer refl) refl) (λ t. exact_then (exact_mark Equal)
+    (λ u. exact_weaker (exact_made (λ x. s.Const at n t x) (exact_whole deep)) closes_expression) (λ u ts a rest t f. refl))
     (λ t. starts_mark Equal _ closes equals refl))
     (λ n ts a rest t f. refl))
     (λ u ts a rest t f. refl)

@@ -140,7 +140,7 @@ params_unmarked : (nameless : Bool) (ts : List Token) (all : List Param) (rest :
 params_unmarked nameless ts all rest (last a b x t) = param_unmarked nameless ts x rest t
 params_unmarked nameless ts all rest (another a between b x behind t comma l) = param_unmarked nameless ts x between t
 
-exact_params : (nameless : Bool) → Exact (reading.param_list nameless) (Listed (grammar.param nameless)) closing
+pub exact_params : (nameless : Bool) → Exact (reading.param_list nameless) (Listed (grammar.param nameless)) closing
 unfolding reading.param_list reading.param_turn
 exact_params nameless = exact_list (reading.param nameless) (grammar.param nameless) in_params closing (exact_param nameless) (under_closing in_params refl) refl refl
 
@@ -224,7 +224,7 @@ exact_declared_head = exact_then exact_here (λ at. exact_behind (sees_word w.Kw
 
 -- ---- operators
 
-operator_sound : (ts : List Token) (o : Option Binary) → operator_at (first ts) ≡ o → Done (Chosen operator_at ts) (mark_by o ts)
+pub operator_sound : (ts : List Token) (o : Option Binary) → operator_at (first ts) ≡ o → Done (Chosen operator_at ts) (mark_by o ts)
 operator_sound ts None is = tt
 operator_sound ts (Some which) is = record { is = is; behind = refl }
 

@@ -27,7 +27,7 @@ use Rattle.parse_stmt.specs.Words.{level_within, line_within}
 use Rattle.parse_stmt.specs.Steps.{place_at, last_before, sees_sep, repeat}
 use Rattle.parse_stmt.specs.Blocks.{sees_end, closed}
 use Rattle.parse_stmt.specs.Blocks as reading
-use Rattle.parse_stmt.specs.Phrases.{Phrase, gives, Then, word, sep, expression}
+use Rattle.parse_stmt.specs.Phrases.{Phrase, gives, Then, either, word, sep, expression}
 use Rattle.parse_stmt.specs.Statements.{Row, last, another, Many}
 use Rattle.parse_stmt.specs.Statements as grammar
 use Rattle.parse_stmt.proofs.Exact.{next_kind, Follow, Exact, always, exact_then, exact_behind, same_end, end_of_end, leave_next}
@@ -62,7 +62,7 @@ ended_placed {A = A} {B = B} {p = p} {P = P} f x = record {
   within = λ ts b rest t. x.within ts t.0 rest t.1;
 }
 
-word_less : (which : Word) (ts : List Token) → sees_word which ts ≡ true → length (next ts) < length ts
+pub word_less : (which : Word) (ts : List Token) → sees_word which ts ≡ true → length (next ts) < length ts
 unfolding sees_word first next
 word_less which [] is = cc
 word_less which (t ∷ ts) is = omega arith
@@ -99,7 +99,7 @@ pub both : {A : Type 0} (P Q : A → List Token → Type 0) (o : Outcome A) → 
 both P Q (Ok p) s t = (s, t)
 both P Q (Err e) s t = tt
 
-module _ (inner : Spot → Reader Stmt) (room : ℕ) (Inner : Level → Line → Phrase Stmt) (inside : Inside inner room Inner) where
+module _ (deep : ℕ) (inner : Spot → Reader Stmt) (room : ℕ) (Inner : Level → Line → Phrase Stmt) (inside : Inside inner room Inner) where
   -- ---- rows
 
   module _ (level : Level) where
@@ -123,14 +123,14 @@ module _ (inner : Spot → Reader Stmt) (room : ℕ) (Inner : Level → Line →
     row_splits ts all rest (another a between b x more t is r) = record { x = x; more = more; between = between; is = refl; stands = t; behind = inr (is, r) }
 
     abbrev row_turns : ℕ → List Stmt × Bool → Reader (List Stmt)
-    row_turns n q = if q.1 then repeat (reading.row_turn inner room level) n q.0 else pure q.0
+    row_turns n q = if q.1 then repeat (reading.row_turn (suc deep) inner room level) n q.0 else pure q.0
 
     record RowRead (found : List Stmt) (ts : List Token) (all : List Stmt) (rest : List Token) : Type 0 where
       behind : List Stmt
       is : all ≡ found ++ behind
       are : RowRest ts behind rest
 
-    row_sound : (n : ℕ) (found : List Stmt) (ts : List Token) → Done (RowRead found ts) (repeat (reading.row_turn inner room level) n found ts)
+    row_sound : (n : ℕ) (found : List Stmt) (ts : List Token) → Done (RowRead found ts) (repeat (reading.row_turn (suc deep) inner room level) n found ts)
     unfolding repeat reading.row_turn
     row_sound zero found ts = tt
     row_sound (suc n) found ts =
@@ -146,7 +146,7 @@ module _ (inner : Spot → Reader Stmt) (room : ℕ) (Inner : Level → Line →
     rest_closes ts all rest (inr r) f = sep_closes lines.Row ts r.0
 
     row_finds : (n : ℕ) (found : List Stmt) (ts : List Token) (all : List Stmt) (rest : List Token) → RowRest ts all rest → closes (next_kind rest) ≡ true → length ts < n
-        → repeat (reading.row_turn inner room level) n found ts ≡ Ok (found ++ all, rest)
+        → repeat (reading.row_turn (suc deep) inner room level) n found ts ≡ Ok (found ++ all, rest)
     unfolding repeat reading.row_turn
     row_finds zero found ts all rest r f few = absurd (omega arith)
     row_finds (suc n) found ts all rest (inl r) f few = rw (r.0, r.1, r.2, append-nil found) refl
@@ -163,15 +163,15 @@ module _ (inner : Spot → Reader Stmt) (room : ℕ) (Inner : Level → Line →
     row_within ts all rest (another a between b x more t is r) =
         end_of_end (row_within (next between) more rest r) (end_of_end (leave_next between) ((inside.exact level lines.Row Expected).within ts x between t))
 
-    first_sound : (ts : List Token) (x : Stmt) (between : List Token) → Inner level lines.Row ts x between → Done (Row (Inner level lines.Row) ts) (reading.row_from inner room level x between)
+    first_sound : (ts : List Token) (x : Stmt) (between : List Token) → Inner level lines.Row ts x between → Done (Row (Inner level lines.Row) ts) (reading.row_from (suc deep) inner room level x between)
     unfolding reading.row_from
     first_sound ts x between t = map_done (RowRead (x ∷ []) between) (Row (Inner level lines.Row) ts) _ (row_sound (length between + 1) (x ∷ []) between)
         (λ all rest r. rw (r.is) (row_joins ts between rest x r.behind t r.are))
 
-    pub ended_row : (other : FaultKind) → Ended (reading.row inner room level other) (Row (Inner level lines.Row)) (coming closes)
+    pub ended_row : (other : FaultKind) → Ended (reading.row (suc deep) inner room level other) (Row (Inner level lines.Row)) (coming closes)
     unfolding reading.row reading.row_from
     ended_row other = record {
-      sound = λ ts. bind (Inner level lines.Row ts) (Row (Inner level lines.Row) ts) (inner (record { level = level; line = lines.Row; other = other }) ts) (reading.row_from inner room level)
+      sound = λ ts. bind (Inner level lines.Row ts) (Row (Inner level lines.Row) ts) (inner (record { level = level; line = lines.Row; other = other }) ts) (reading.row_from (suc deep) inner room level)
           ((inside.exact level lines.Row other).sound ts) (λ x between t. first_sound ts x between t);
       finds = λ ts all rest r f.
           let p = row_splits ts all rest r in
@@ -182,21 +182,21 @@ module _ (inner : Spot → Reader Stmt) (room : ℕ) (Inner : Level → Line →
 
     -- ---- the one-line If
 
-    pub ended_then_row : Ended (reading.row_then inner room level) (grammar.then_row Inner level) (coming closes)
+    pub ended_then_row : Ended (reading.row_then (suc deep) inner room level) (grammar.then_row (suc deep) Inner level) (coming closes)
     unfolding reading.row_then reading.row_end
     ended_then_row = ended_placed (λ ts all rest. roll-Block (record { stmts = all; end = if sees_word w.KwElse rest then place_at rest else last_before ts rest })) (ended_row ExtraText)
 
-    ended_else_row : Ended (reading.row_else inner room level) (grammar.else_row Inner level) (coming closes)
+    ended_else_row : Ended (reading.row_else (suc deep) inner room level) (grammar.else_row (suc deep) Inner level) (coming closes)
     unfolding reading.row_else
     ended_else_row = ended_placed (λ ts all rest. roll-Block (record { stmts = all; end = last_before ts rest })) (ended_row Expected)
 
     abbrev no_else : List Token → Bool
     no_else rest = if sees_word w.KwElse rest then false else true
 
-    other_sound : (ts : List Token) → Done (grammar.row_other Inner level ts) (reading.row_other inner room level ts)
+    other_sound : (ts : List Token) → Done (grammar.row_other (suc deep) Inner level ts) (reading.row_other (suc deep) inner room level ts)
     unfolding reading.row_other
-    other_sound ts = by_test (λ (o : Outcome (Option (Span × Block))). Done (grammar.row_other Inner level ts) o) (sees_word w.KwElse ts) _ _
-        (λ is. bind (grammar.else_row Inner level (next ts)) (grammar.row_other Inner level ts) (reading.row_else inner room level (next ts)) _ (ended_else_row.sound (next ts))
+    other_sound ts = by_test (λ (o : Outcome (Option (Span × Block))). Done (grammar.row_other (suc deep) Inner level ts) o) (sees_word w.KwElse ts) _ _
+        (λ is. bind (grammar.else_row (suc deep) Inner level (next ts)) (grammar.row_other (suc deep) Inner level ts) (reading.row_else (suc deep) inner room level (next ts)) _ (ended_else_row.sound (next ts))
         (λ b rest t. inl (record { given = place_at ts; between = ts; front = (refl, refl); back = record { given = tt; between = next ts; front = (is, refl); back = record { given = b; between = rest; front = t; back = (refl, refl) } } })))
         (λ is. inr ((refl, refl), rw is refl))
 
@@ -204,37 +204,37 @@ module _ (inner : Spot → Reader Stmt) (room : ℕ) (Inner : Level → Line →
     none_else ts true is t = cc
     none_else ts false is t = refl
 
-    other_finds : (ts : List Token) (a : Option (Span × Block)) (rest : List Token) → grammar.row_other Inner level ts a rest → coming closes rest ≡ true → reading.row_other inner room level ts ≡ Ok (a, rest)
+    other_finds : (ts : List Token) (a : Option (Span × Block)) (rest : List Token) → grammar.row_other (suc deep) Inner level ts a rest → coming closes rest ≡ true → reading.row_other (suc deep) inner room level ts ≡ Ok (a, rest)
     unfolding reading.row_other
     other_finds ts a rest (inl t) f =
-        let k = token_then (sees_word w.KwElse) (λ at. Then (grammar.else_row Inner level) (λ b. gives (Some (at, b)))) ts a rest t in
+        let k = token_then (sees_word w.KwElse) (λ at. Then (grammar.else_row (suc deep) Inner level) (λ b. gives (Some (at, b)))) ts a rest t in
         rw (k.is) (ap (λ (o : Outcome Block). and_then o (λ b r. Ok (Some (place_at ts, b), r)))
         (ended_else_row.finds (next ts) k.stands.given k.stands.between k.stands.front (ap (coming closes) (sym k.stands.back.1) ∙ f)) ∙ same_answer _ a k.stands.between rest k.stands.back.0 k.stands.back.1)
     other_finds ts a rest (inr t) f =
         rw (none_else ts (sees_word w.KwElse ts) refl (ap no_else (sym t.0.1) ∙ t.1)) (same_answer _ a ts rest t.0.0 t.0.1)
 
-    other_within : (ts : List Token) (a : Option (Span × Block)) (rest : List Token) → grammar.row_other Inner level ts a rest → Suffixes rest ts
+    other_within : (ts : List Token) (a : Option (Span × Block)) (rest : List Token) → grammar.row_other (suc deep) Inner level ts a rest → Suffixes rest ts
     other_within ts a rest (inl t) =
-        let k = token_then (sees_word w.KwElse) (λ at. Then (grammar.else_row Inner level) (λ b. gives (Some (at, b)))) ts a rest t in
+        let k = token_then (sees_word w.KwElse) (λ at. Then (grammar.else_row (suc deep) Inner level) (λ b. gives (Some (at, b)))) ts a rest t in
         rw (k.stands.back.1) (end_of_end (ended_else_row.within (next ts) k.stands.given k.stands.between k.stands.front) (leave_next ts))
     other_within ts a rest (inr t) = rw (t.0.1) (same_end ts)
 
-    ended_other : Ended (reading.row_other inner room level) (grammar.row_other Inner level) (coming closes)
+    ended_other : Ended (reading.row_other (suc deep) inner room level) (grammar.row_other (suc deep) Inner level) (coming closes)
     ended_other = record { sound = other_sound; finds = other_finds; within = other_within }
 
-    other_closes : (ts : List Token) (a : Option (Span × Block)) (rest : List Token) → grammar.row_other Inner level ts a rest → coming closes rest ≡ true → coming closes ts ≡ true
+    other_closes : (ts : List Token) (a : Option (Span × Block)) (rest : List Token) → grammar.row_other (suc deep) Inner level ts a rest → coming closes rest ≡ true → coming closes ts ≡ true
     other_closes ts a rest (inl t) f =
-        let k = token_then (sees_word w.KwElse) (λ at. Then (grammar.else_row Inner level) (λ b. gives (Some (at, b)))) ts a rest t in
+        let k = token_then (sees_word w.KwElse) (λ at. Then (grammar.else_row (suc deep) Inner level) (λ b. gives (Some (at, b)))) ts a rest t in
         ap closes (next_word w.KwElse ts k.is)
     other_closes ts a rest (inr t) f = ap (coming closes) (sym t.0.1) ∙ f
 
-    pub row_opens : (at : Span) (condition : Expr) (ts : List Token) (x : Stmt) (rest : List Token) → grammar.if_row Inner at condition level ts x rest → coming closes rest ≡ true → (other : Line) → sees_sep other ts ≡ false
+    pub row_opens : (at : Span) (condition : Expr) (ts : List Token) (x : Stmt) (rest : List Token) → grammar.if_row (suc deep) Inner at condition level ts x rest → coming closes rest ≡ true → (other : Line) → sees_sep other ts ≡ false
     row_opens at condition ts x rest t f other =
         let p = row_splits ts t.front.0 t.between t.front.1 in
         let c : closes (next_kind t.between) ≡ true = other_closes t.between t.back.given t.back.between t.back.front (ap (coming closes) (sym t.back.back.1) ∙ f) in
         (inside.opens level lines.Row ts p.x p.between p.stands (rest_closes p.between p.more t.between p.behind c)).no_sep other
 
-    pub ended_if_row : (at : Span) (condition : Expr) → Ended (reading.if_row inner room at condition level) (grammar.if_row Inner at condition level) (coming closes)
+    pub ended_if_row : (at : Span) (condition : Expr) → Ended (reading.if_row (suc deep) inner room at condition level) (grammar.if_row (suc deep) Inner at condition level) (coming closes)
     unfolding reading.if_row
     ended_if_row at condition = ended_then ended_then_row (λ one. ended_made (λ other. s.IfLine at condition one other) ended_other)
         (λ one ts b rest t d. other_closes ts t.given t.between t.front (ap (coming closes) (sym t.back.1) ∙ d))
@@ -257,87 +257,93 @@ module _ (inner : Spot → Reader Stmt) (room : ℕ) (Inner : Level → Line →
       rw (e) n
 
   body_both : (level : Level) (line : Line) (closer : Closer) (ts : List Token)
-      → Done (λ b rest. grammar.body Inner level line ts b rest × (closed closer rest ≡ true)) (reading.body inner room level line closer ts)
+      → Done (λ b rest. grammar.body (suc deep) Inner level line ts b rest × (closed closer rest ≡ true)) (reading.body (suc deep) inner room level line closer ts)
   body_both level line closer ts =
-      both (grammar.body Inner level line ts) (λ b rest. closed closer rest ≡ true) (reading.body inner room level line closer ts) ((ended_body inner room Inner inside level line closer).sound ts) (body_ends inner room Inner inside level line closer ts)
+      both (grammar.body (suc deep) Inner level line ts) (λ b rest. closed closer rest ≡ true) (reading.body (suc deep) inner room level line closer ts) ((ended_body deep inner room Inner inside level line closer).sound ts) (body_ends deep inner room Inner inside level line closer ts)
 
   -- a block, and the word that ends it
   ended_loop : {B : Type 0} (level : Level) (line : Line) (closer : Closer) (which : Word) → ((ts : List Token) → closed closer ts ≡ sees_word which ts)
       → (k : Block → Reader B) {K : Block → Phrase B} {D : List Token → Bool} → ((b : Block) → Ended (k b) (K b) D)
-      → Ended (λ ts. and_then (reading.body inner room level line closer ts) (λ b. λ us. and_then (take_token us) (λ u. k b))) (Then (grammar.body Inner level line) (λ b. Then (word which) (λ u. K b))) D
+      → Ended (λ ts. and_then (reading.body (suc deep) inner room level line closer ts) (λ b. λ us. and_then (take_token us) (λ u. k b))) (Then (grammar.body (suc deep) Inner level line) (λ b. Then (word which) (λ u. K b))) D
   ended_loop {B = B} level line closer which same k {K = K} {D = D} x = record {
-    sound = λ ts. bind (λ b rest. grammar.body Inner level line ts b rest × (closed closer rest ≡ true)) (Then (grammar.body Inner level line) (λ b. Then (word which) (λ u. K b)) ts) (reading.body inner room level line closer ts) _
+    sound = λ ts. bind (λ b rest. grammar.body (suc deep) Inner level line ts b rest × (closed closer rest ≡ true)) (Then (grammar.body (suc deep) Inner level line) (λ b. Then (word which) (λ u. K b)) ts) (reading.body (suc deep) inner room level line closer ts) _
         (body_both level line closer ts)
-        (λ b between t. map_done (K b (next between)) (Then (grammar.body Inner level line) (λ b. Then (word which) (λ u. K b)) ts) (k b (next between)) ((x b).sound (next between))
+        (λ b between t. map_done (K b (next between)) (Then (grammar.body (suc deep) Inner level line) (λ b. Then (word which) (λ u. K b)) ts) (k b (next between)) ((x b).sound (next between))
         (λ y rest r. record { given = b; between = between; front = t.0; back = record { given = tt; between = next between; front = (sym (same between) ∙ t.1, refl); back = r } }));
     finds = λ ts y rest t d.
-        ap (λ (o : Outcome Block). and_then o (λ b us. and_then (take_token us) (λ u. k b))) ((ended_body inner room Inner inside level line closer).finds ts t.given t.between t.front (same t.between ∙ t.back.front.0))
+        ap (λ (o : Outcome Block). and_then o (λ b us. and_then (take_token us) (λ u. k b))) ((ended_body deep inner room Inner inside level line closer).finds ts t.given t.between t.front (same t.between ∙ t.back.front.0))
         ∙ subst (λ (m : List Token). k t.given m ≡ Ok (y, rest)) t.back.front.1 ((x t.given).finds t.back.between y rest t.back.back d);
     within = λ ts y rest t. end_of_end ((x t.given).within t.back.between y rest t.back.back)
-        (rw (t.back.front.1) (end_of_end (leave_next t.between) ((ended_body inner room Inner inside level line closer).within ts t.given t.between t.front)));
+        (rw (t.back.front.1) (end_of_end (leave_next t.between) ((ended_body deep inner room Inner inside level line closer).within ts t.given t.between t.front)));
   }
 
   -- ---- the If of several lines
 
   module _ (level : Level) (line : Line) where
-    abbrev in_branches : List Token → Bool
+    abbrev pub in_branches : List Token → Bool
     in_branches = closed closers.Branches
 
     -- an Else or the end
-    abbrev behind_branches : List Token → Bool
+    abbrev pub behind_branches : List Token → Bool
     behind_branches ts = if sees_word w.KwElseIf ts then false else in_branches ts
 
-    ended_branch : (at : Span) (condition : Expr) → Ended (reading.branch inner room at condition level line) (grammar.branch Inner at condition level line) in_branches
+    pub ended_branch : (at : Span) (condition : Expr) → Ended (reading.branch (suc deep) inner room at condition level line) (grammar.branch (suc deep) Inner at condition level line) in_branches
     unfolding reading.branch
-    ended_branch at condition = ended_made (λ b. roll-Branch (record { at = at; condition = condition; body = b })) (ended_body inner room Inner inside level line closers.Branches)
+    ended_branch at condition = ended_made (λ b. roll-Branch (record { at = at; condition = condition; body = b })) (ended_body deep inner room Inner inside level line closers.Branches)
 
-    ended_else_if : (at : Span) → Ended (reading.else_if inner room at level line) (Then expression (λ condition. Then (word w.KwThen) (λ u. Then (sep line) (λ v. grammar.branch Inner at condition level line)))) in_branches
+    pub ended_else_if : (at : Span) → Ended (reading.else_if (suc deep) inner room at level line) (Then (expression (suc deep)) (λ condition. Then (word w.KwThen) (λ u. Then (sep line) (λ v. grammar.branch (suc deep) Inner at condition level line)))) in_branches
     unfolding reading.else_if
-    ended_else_if at = ended_then (as_ended exact_whole) (λ condition. ended_then (as_ended (exact_word w.KwThen)) (λ u. ended_then (as_ended (exact_sep line)) (λ v. ended_branch at condition)
+    ended_else_if at = ended_then (as_ended (exact_whole deep)) (λ condition. ended_then (as_ended (exact_word w.KwThen)) (λ u. ended_then (as_ended (exact_sep line)) (λ v. ended_branch at condition)
         (λ v ts b rest t d. refl)) (λ u ts b rest t d. refl))
         (λ condition ts b rest t d. ap ends_expression (next_word w.KwThen ts t.front.0))
 
-    ended_branches : (one : Branch) → Ended (reading.branches inner room level line one) (AllRead (sees_word w.KwElseIf) (λ at. reading.else_if inner room at level line) (λ at. Then expression (λ condition. Then (word w.KwThen) (λ u. Then (sep line) (λ v. grammar.branch Inner at condition level line)))) (one ∷ [])) behind_branches
+    pub ended_branches : (one : Branch) → Ended (reading.branches (suc deep) inner room level line one) (AllRead (sees_word w.KwElseIf) (λ at. reading.else_if (suc deep) inner room at level line) (λ at. Then (expression (suc deep)) (λ condition. Then (word w.KwThen) (λ u. Then (sep line) (λ v. grammar.branch (suc deep) Inner at condition level line)))) (one ∷ [])) behind_branches
     unfolding reading.branches reading.branch_turn
-    ended_branches one = ended_many (sees_word w.KwElseIf) (λ at. reading.else_if inner room at level line) (λ at. Then expression (λ condition. Then (word w.KwThen) (λ u. Then (sep line) (λ v. grammar.branch Inner at condition level line))))
+    ended_branches one = ended_many (sees_word w.KwElseIf) (λ at. reading.else_if (suc deep) inner room at level line) (λ at. Then (expression (suc deep)) (λ condition. Then (word w.KwThen) (λ u. Then (sep line) (λ v. grammar.branch (suc deep) Inner at condition level line))))
         in_branches behind_branches ended_else_if (λ ts is. rw is refl) (λ ts d. no_first (sees_word w.KwElseIf ts) (in_branches ts) d) (λ ts d. not_first (sees_word w.KwElseIf ts) (in_branches ts) d) (word_less w.KwElseIf) (one ∷ [])
 
-    ended_any_else : Ended (reading.any_else inner room level line) (grammar.last_else Inner level line) (closed closers.Else)
+    pub ended_any_else : Ended (reading.any_else (suc deep) inner room level line) (grammar.last_else (suc deep) Inner level line) (closed closers.Else)
     unfolding reading.any_else reading.else_body
-    ended_any_else = ended_behind (sees_word w.KwElse) (λ at. ended_made (λ b. Some (at, b)) (ended_then (as_ended (exact_sep line)) (λ u. ended_body inner room Inner inside level line closers.Else) (λ u ts b rest t d. refl)))
+    ended_any_else = ended_behind (sees_word w.KwElse) (λ at. ended_made (λ b. Some (at, b)) (ended_then (as_ended (exact_sep line)) (λ u. ended_body deep inner room Inner inside level line closers.Else) (λ u ts b rest t d. refl)))
         (ended_gives None (closed closers.Else)) (λ ts a rest t d. end_no_word w.KwElse w.KwIf ts refl (ap (closed closers.Else) (sym t.1) ∙ d))
 
-    else_by : (ts : List Token) (a : Option (Span × Block)) (between : List Token) → grammar.last_else Inner level line ts a between → sees_end w.KwIf between ≡ true → behind_branches ts ≡ true
+    else_by : (ts : List Token) (a : Option (Span × Block)) (between : List Token) → grammar.last_else (suc deep) Inner level line ts a between → sees_end w.KwIf between ≡ true → behind_branches ts ≡ true
     else_by ts a between (inl t) e =
-        let k = token_then (sees_word w.KwElse) (λ at. Then (Then (sep line) (λ u. grammar.body Inner level line)) (λ b. gives (Some (at, b)))) ts a between t in
+        let k = token_then (sees_word w.KwElse) (λ at. Then (Then (sep line) (λ u. grammar.body (suc deep) Inner level line)) (λ b. gives (Some (at, b)))) ts a between t in
         rw (no_word w.KwElseIf only_else ts refl (ap only_else (next_word w.KwElse ts k.is)) (sees_word w.KwElseIf ts) refl, k.is) refl
     else_by ts a between (inr t) e =
         let f : sees_end w.KwIf ts ≡ true = ap (sees_end w.KwIf) (sym t.1) ∙ e in
         rw (end_no_word w.KwElseIf w.KwIf ts refl f, end_no_word w.KwElse w.KwIf ts refl f) f
 
-    pub ended_if_block : (at : Span) (condition : Expr) → Ended (reading.if_block inner room at condition level line) (grammar.if_block Inner at condition level line) (coming closes)
+    pub ended_if_block : (at : Span) (condition : Expr) → Ended (reading.if_block (suc deep) inner room at condition level line) (grammar.if_block (suc deep) Inner at condition level line) (coming closes)
     unfolding reading.if_block
     ended_if_block at condition = ended_then (ended_branch at condition)
         (λ one. ended_after (one ∷ []) _ (ended_branches one)
         (λ more. ended_then ended_any_else (λ other. ended_made (λ end. s.If at (one ∷ more) other end) (always_ended (coming closes) (end_exact w.KwIf))) (λ other ts b rest t d. end_seen w.KwIf ts t.given t.between t.front))
         (λ more ts b rest t d. else_by ts t.given t.between t.front (end_seen w.KwIf t.between t.back.given t.back.between t.back.front)))
-        (λ one ts b rest t d. many_starts (sees_word w.KwElseIf) (λ at. reading.else_if inner room at level line) (λ at. Then expression (λ condition. Then (word w.KwThen) (λ u. Then (sep line) (λ v. grammar.branch Inner at condition level line))))
+        (λ one ts b rest t d. many_starts (sees_word w.KwElseIf) (λ at. reading.else_if (suc deep) inner room at level line) (λ at. Then (expression (suc deep)) (λ condition. Then (word w.KwThen) (λ u. Then (sep line) (λ v. grammar.branch (suc deep) Inner at condition level line))))
         in_branches behind_branches (λ us is. rw is refl) (λ us e. no_first (sees_word w.KwElseIf us) (in_branches us) e) ts t.given t.between t.front
         (else_by t.between t.back.given t.back.between t.back.front (end_seen w.KwIf t.back.between t.back.back.given t.back.back.between t.back.back.front)))
 
-  no_if_line : (line : Line) (at : Span) (condition : Expr) (level : Level) (ts : List Token) (x : Stmt) (rest : List Token) → grammar.if_line Inner line at condition level ts x rest → coming closes rest ≡ true → (other : Line) → sees_sep other ts ≡ false
+  no_if_line : (line : Line) (at : Span) (condition : Expr) (level : Level) (ts : List Token) (x : Stmt) (rest : List Token) → grammar.if_line (suc deep) Inner line at condition level ts x rest → coming closes rest ≡ true → (other : Line) → sees_sep other ts ≡ false
   no_if_line lines.Free at condition level ts x rest t f other = row_opens level at condition ts x rest t f other
   no_if_line lines.Row at condition level ts x rest t f other = row_opens level at condition ts x rest t f other
   no_if_line lines.Inner at condition level ts x rest t f other = absurd t
 
-  ended_if_line : (line : Line) (at : Span) (condition : Expr) (level : Level) → Ended (reading.if_by inner room line at condition level) (grammar.if_line Inner line at condition level) (coming closes)
+  ended_if_line : (line : Line) (at : Span) (condition : Expr) (level : Level) → Ended (reading.if_by (suc deep) inner room line at condition level) (grammar.if_line (suc deep) Inner line at condition level) (coming closes)
   ended_if_line lines.Free at condition level = ended_if_row level at condition
   ended_if_line lines.Row at condition level = ended_if_row level at condition
   ended_if_line lines.Inner at condition level = record { sound = λ ts. tt; finds = λ ts x rest t d. absurd t; within = λ ts x rest t. absurd t }
 
-  pub exact_if : (at : Span) (level : Level) (line : Line) → Exact (reading.if_ inner room at level line) (grammar.if_ Inner at level line) closes
+  pub exact_if_behind : (at : Span) (condition : Expr) (level : Level) (line : Line) → Exact (reading.if_behind (suc deep) inner room at condition level line)
+      (either (Then (sep line) (λ (u : Unit {0}). grammar.if_block (suc deep) Inner at condition (level_within level) (line_within line))) (grammar.if_line (suc deep) Inner line at condition (level_within level))) closes
+  unfolding reading.if_behind
+  exact_if_behind at condition level line = exact_behind (sees_sep line) (as_exact (ended_if_block (level_within level) (line_within line) at condition)) (as_exact (ended_if_line line at condition (level_within level)))
+      (λ ts x rest t f. no_if_line line at condition (level_within level) ts x rest t f line)
+
+  pub exact_if : (at : Span) (level : Level) (line : Line) → Exact (reading.if_ (suc deep) inner room at level line) (grammar.if_ (suc deep) Inner at level line) closes
   unfolding reading.if_ reading.if_behind
-  exact_if at level line = exact_taking (exact_then exact_whole (λ condition. exact_then (exact_word w.KwThen)
+  exact_if at level line = exact_taking (exact_then (exact_whole deep) (λ condition. exact_then (exact_word w.KwThen)
       (λ u. exact_behind (sees_sep line) (as_exact (ended_if_block (level_within level) (line_within line) at condition)) (as_exact (ended_if_line line at condition (level_within level)))
       (λ ts x rest t f. no_if_line line at condition (level_within level) ts x rest t f line))
       (λ u ts b rest t f. refl))
@@ -348,34 +354,34 @@ module _ (inner : Spot → Reader Stmt) (room : ℕ) (Inner : Level → Line →
   sep_expression : (line : Line) (ts : List Token) → sees_sep line ts ≡ true → ends_expression (next_kind ts) ≡ true
   sep_expression line ts is = closes_expression (next_kind ts) (sep_closes line ts is)
 
-  pub exact_while : (at : Span) (level : Level) (line : Line) → Exact (reading.while_ inner room at level line) (grammar.while_ Inner at level line) closes
+  pub exact_while : (at : Span) (level : Level) (line : Line) → Exact (reading.while_ (suc deep) inner room at level line) (grammar.while_ (suc deep) Inner at level line) closes
   unfolding reading.while_
-  exact_while at level line = exact_taking (exact_then exact_whole (λ condition. exact_then (exact_sep line)
+  exact_while at level line = exact_taking (exact_then (exact_whole deep) (λ condition. exact_then (exact_sep line)
       (λ u. as_exact (ended_loop level line closers.Wend w.KwWend (λ ts. refl) (λ b. pure (s.While at condition b)) (λ b. ended_gives (s.While at condition b) (coming closes))))
       (λ u ts b rest t f. refl))
       (λ condition ts b rest t f. sep_expression line ts t.front.0))
 
-  pub exact_do : (at : Span) (level : Level) (line : Line) → Exact (reading.do_ inner room at level line) (grammar.do_ Inner at level line) closes
+  pub exact_do : (at : Span) (level : Level) (line : Line) → Exact (reading.do_ (suc deep) inner room at level line) (grammar.do_ (suc deep) Inner at level line) closes
   unfolding reading.do_
-  exact_do at level line = exact_taking (exact_then exact_any_test (λ one. exact_then (exact_sep line)
-      (λ u. as_exact (ended_loop level line closers.Loop w.KwLoop (λ ts. refl) _ (λ b. as_ended (exact_made (λ other. s.Do at one b other) (exact_last_test one)))))
+  exact_do at level line = exact_taking (exact_then (exact_any_test deep) (λ one. exact_then (exact_sep line)
+      (λ u. as_exact (ended_loop level line closers.Loop w.KwLoop (λ ts. refl) _ (λ b. as_ended (exact_made (λ other. s.Do at one b other) (exact_last_test deep one)))))
       (λ u ts b rest t f. refl))
       (λ one ts b rest t f. sep_closes line ts t.front.0))
 
-  exact_for_head : Exact (reading.for_head inner room) grammar.for_head closes
+  exact_for_head : Exact (reading.for_head (suc deep) inner room) (grammar.for_head (suc deep)) closes
   unfolding reading.for_head
-  exact_for_head = exact_then exact_name (λ n. exact_then (any_type_exact equals (under_equals no_pointer refl) refl) (λ t. exact_then (exact_mark Equal) (λ u. exact_made (λ values. (n, t, values)) (exact_range inner room))
+  exact_for_head = exact_then exact_name (λ n. exact_then (any_type_exact equals (under_equals no_pointer refl) refl) (λ t. exact_then (exact_mark Equal) (λ u. exact_made (λ values. (n, t, values)) (exact_range deep inner room))
       (λ u ts b rest t f. refl))
       (λ t. starts_mark Equal _ closes equals refl))
       (λ n ts b rest t f. refl)
 
-  exact_for_tail : (level : Level) (line : Line) → Exact (reading.for_tail inner room level line) (grammar.for_tail Inner level line) closes
+  exact_for_tail : (level : Level) (line : Line) → Exact (reading.for_tail (suc deep) inner room level line) (grammar.for_tail (suc deep) Inner level line) closes
   unfolding reading.for_tail
   exact_for_tail level line = exact_then (exact_sep line)
       (λ v. as_exact (ended_loop level line closers.Next w.KwNext (λ ts. refl) _ (λ b. as_ended (exact_made (λ again. (b, again)) exact_any_name))))
       (λ v ts b rest t f. refl)
 
-  pub exact_for : (at : Span) (level : Level) (line : Line) → Exact (reading.for_ inner room at level line) (grammar.for_ Inner at level line) closes
+  pub exact_for : (at : Span) (level : Level) (line : Line) → Exact (reading.for_ (suc deep) inner room at level line) (grammar.for_ (suc deep) Inner at level line) closes
   unfolding reading.for_
   exact_for at level line = exact_taking (exact_then exact_for_head (λ head. exact_made (λ tail. s.For at head.0 head.1 head.2.0 head.2.1 head.2.2 tail.0 tail.1) (exact_for_tail level line))
       (λ head ts b rest t f. sep_closes line ts t.front.front.0))
@@ -383,41 +389,41 @@ module _ (inner : Spot → Reader Stmt) (room : ℕ) (Inner : Level → Line →
   -- ---- Select and Scope
 
   module _ (level : Level) (line : Line) where
-    abbrev in_cases : List Token → Bool
+    abbrev pub in_cases : List Token → Bool
     in_cases = closed closers.Cases
 
-    abbrev behind_cases : List Token → Bool
+    abbrev pub behind_cases : List Token → Bool
     behind_cases ts = if sees_word w.KwCase ts then false else in_cases ts
 
-    abbrev Behind_Case : Span → Phrase CaseBranch
-    Behind_Case at = Then grammar.all_cases (λ all. Then (sep line) (λ u. Then (grammar.body Inner level line) (λ b. gives (roll-CaseBranch (record { at = at; cases = all; body = b })))))
+    abbrev pub Behind_Case : Span → Phrase CaseBranch
+    Behind_Case at = Then (grammar.all_cases (suc deep)) (λ all. Then (sep line) (λ u. Then (grammar.body (suc deep) Inner level line) (λ b. gives (roll-CaseBranch (record { at = at; cases = all; body = b })))))
 
-    ended_case : (at : Span) → Ended (reading.case_branch inner room at level line) (Behind_Case at) in_cases
+    pub ended_case : (at : Span) → Ended (reading.case_branch (suc deep) inner room at level line) (Behind_Case at) in_cases
     unfolding reading.case_branch
-    ended_case at = ended_then (as_ended exact_cases) (λ all. ended_then (as_ended (exact_sep line)) (λ u. ended_made (λ b. roll-CaseBranch (record { at = at; cases = all; body = b })) (ended_body inner room Inner inside level line closers.Cases))
+    ended_case at = ended_then (as_ended (exact_cases deep)) (λ all. ended_then (as_ended (exact_sep line)) (λ u. ended_made (λ b. roll-CaseBranch (record { at = at; cases = all; body = b })) (ended_body deep inner room Inner inside level line closers.Cases))
         (λ u ts b rest t d. refl)) (λ all ts b rest t d. sep_closes line ts t.front.0)
 
-    ended_cases : Ended (reading.case_branches inner room level line) (AllRead (sees_word w.KwCase) (λ at. reading.case_branch inner room at level line) Behind_Case []) behind_cases
+    pub ended_cases : Ended (reading.case_branches (suc deep) inner room level line) (AllRead (sees_word w.KwCase) (λ at. reading.case_branch (suc deep) inner room at level line) Behind_Case []) behind_cases
     unfolding reading.case_branches reading.select_turn
-    ended_cases = ended_many (sees_word w.KwCase) (λ at. reading.case_branch inner room at level line) Behind_Case in_cases behind_cases ended_case
+    ended_cases = ended_many (sees_word w.KwCase) (λ at. reading.case_branch (suc deep) inner room at level line) Behind_Case in_cases behind_cases ended_case
         (λ ts is. rw is refl) (λ ts d. no_first (sees_word w.KwCase ts) (in_cases ts) d) (λ ts d. not_first (sees_word w.KwCase ts) (in_cases ts) d) (word_less w.KwCase) []
 
     end_behind_cases : (ts : List Token) → sees_end w.KwSelect ts ≡ true → behind_cases ts ≡ true
     end_behind_cases ts e = rw (end_no_word w.KwCase w.KwSelect ts refl e) e
 
-    pub exact_select : (at : Span) → Exact (reading.select inner room at level line) (grammar.select Inner at level line) closes
+    pub exact_select : (at : Span) → Exact (reading.select (suc deep) inner room at level line) (grammar.select (suc deep) Inner at level line) closes
     unfolding reading.select
-    exact_select at = exact_taking (exact_then (exact_word w.KwCase) (λ u. exact_then exact_whole (λ x. exact_then (exact_sep line)
+    exact_select at = exact_taking (exact_then (exact_word w.KwCase) (λ u. exact_then (exact_whole deep) (λ x. exact_then (exact_sep line)
         (λ v. as_exact (ended_after [] _ ended_cases (λ all. ended_made (λ end. s.Select at x all end) (always_ended (coming closes) (end_exact w.KwSelect)))
         (λ all ts b rest t d. end_behind_cases ts (end_seen w.KwSelect ts t.given t.between t.front))))
         (λ v ts b rest t f. refl))
         (λ x ts b rest t f. sep_expression line ts t.front.0))
         (λ u ts b rest t f. refl))
 
-    pub exact_scope : (at : Span) → Exact (reading.scope inner room at level line) (grammar.scope Inner at level line) closes
+    pub exact_scope : (at : Span) → Exact (reading.scope (suc deep) inner room at level line) (grammar.scope (suc deep) Inner at level line) closes
     unfolding reading.scope
     exact_scope at = exact_taking (exact_then (exact_sep line)
-        (λ u. as_exact (ended_then (ended_body inner room Inner inside level line closers.Scope)
+        (λ u. as_exact (ended_then (ended_body deep inner room Inner inside level line closers.Scope)
         (λ b. ended_then (always_ended (λ ts. true) (end_exact w.KwScope)) (λ v. ended_gives (s.Scope at b) (coming closes)) (λ v ts y rest t d. refl))
         (λ b ts y rest t d. end_seen w.KwScope ts t.given t.between t.front)))
         (λ u ts b rest t f. refl))

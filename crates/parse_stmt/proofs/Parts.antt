@@ -1,5 +1,5 @@
 -- Parts of loops and of Select are read exactly.
-use Rattle.std.proofs.Common.{◌≡◌, ℕ, true, false, List, [], ◌∷◌, Option, Some, None, is_some, Ok, refl, sym, ap, ◌∙◌, subst, inl, inr}
+use Rattle.std.proofs.Common.{◌≡◌, suc, ℕ, true, false, List, [], ◌∷◌, Option, Some, None, is_some, Ok, refl, sym, ap, ◌∙◌, subst, inl, inr}
 use Rattle.fb_base.specs.declared.fault.Span.{Span}
 use Rattle.fb_lexer.specs.declared.token.Token.{Token}
 use Rattle.fb_lexer.specs.declared.token.TokenKind.{TokenKind}
@@ -76,10 +76,10 @@ step_expression : (o : Option TokenKind) → step_or_end o ≡ true → ends_exp
 step_expression (Some (kinds.Word w.KwStep)) is = refl
 step_expression other is = closes_expression other is
 
-pub exact_range : (inner : _) (room : ℕ) → Exact (reading.range inner room) grammar.range closes
+pub exact_range : (deep : ℕ) → (inner : _) (room : ℕ) → Exact (reading.range (suc deep) inner room) (grammar.range (suc deep)) closes
 unfolding reading.range value_behind
-exact_range inner room = exact_then exact_whole (λ start. exact_then (exact_word w.KwTo) (λ u. exact_then exact_whole
-    (λ end. exact_made (λ step. (start, end, step)) (exact_behind_word w.KwStep closes closes_expression refl exact_whole))
+exact_range deep inner room = exact_then (exact_whole deep) (λ start. exact_then (exact_word w.KwTo) (λ u. exact_then (exact_whole deep)
+    (λ end. exact_made (λ step. (start, end, step)) (exact_behind_word w.KwStep closes closes_expression refl (exact_whole deep)))
     (λ end. starts_then closes closes ends_expression
     (starts_either closes ends_expression (starts_word w.KwStep _ closes ends_expression refl) (starts_gives None closes ends_expression closes_expression)) (λ step. starts_gives _ closes closes (λ o is. is))))
     (λ u ts b rest t f. refl))
@@ -98,10 +98,10 @@ unfolding first
 none_until [] is = refl
 none_until (t ∷ ts) is = no_until t.kind is
 
-test_sound : (ts : List Token) (o : Option Until) → until_at (first ts) ≡ o → Done (maybe grammar.test ts) (reading.test_by (place_at ts) o ts)
-test_sound ts None is = inr (refl, refl)
-test_sound ts (Some which) is =
-    bind (expression (next ts)) (maybe grammar.test ts) (whole (next ts)) _ (exact_whole.sound (next ts))
+test_sound : (deep : ℕ) → (ts : List Token) (o : Option Until) → until_at (first ts) ≡ o → Done (maybe (grammar.test (suc deep)) ts) (reading.test_by (suc deep) (place_at ts) o ts)
+test_sound deep ts None is = inr (refl, refl)
+test_sound deep ts (Some which) is =
+    bind (expression (suc deep) (next ts)) (maybe (grammar.test (suc deep)) ts) (whole (suc deep) (next ts)) _ ((exact_whole deep).sound (next ts))
     (λ x rest t. inl (record {
       given = record { at = place_at ts; word = which; condition = x };
       between = rest;
@@ -109,36 +109,36 @@ test_sound ts (Some which) is =
       back = (refl, refl);
     }))
 
-test_read : (ts : List Token) (which : Until) (between : List Token) (x : Expr) (rest : List Token) → Chosen until_at ts which between → expression between x rest → closes (next_kind rest) ≡ true
-    → reading.test_by (place_at ts) (until_at (first ts)) ts ≡ Ok (Some (record { at = place_at ts; word = which; condition = x }), rest)
-test_read ts which between x rest c t f =
+test_read : (deep : ℕ) → (ts : List Token) (which : Until) (between : List Token) (x : Expr) (rest : List Token) → Chosen until_at ts which between → expression (suc deep) between x rest → closes (next_kind rest) ≡ true
+    → reading.test_by (suc deep) (place_at ts) (until_at (first ts)) ts ≡ Ok (Some (record { at = place_at ts; word = which; condition = x }), rest)
+test_read deep ts which between x rest c t f =
     rw (c.is) (ap (λ (o : Outcome Expr). and_then o (λ y r. Ok (Some (record { at = place_at ts; word = which; condition = y }), r)))
-    (exact_whole.finds (next ts) x rest (subst (λ (m : List Token). expression m x rest) c.behind t) (closes_expression (next_kind rest) f)))
+    ((exact_whole deep).finds (next ts) x rest (subst (λ (m : List Token). expression (suc deep) m x rest) c.behind t) (closes_expression (next_kind rest) f)))
 
-test_finds : (ts : List Token) (a : Option Test) (rest : List Token) → maybe grammar.test ts a rest → closes (next_kind rest) ≡ true → reading.test_by (place_at ts) (until_at (first ts)) ts ≡ Ok (a, rest)
-test_finds ts a rest (inl t) f =
+test_finds : (deep : ℕ) → (ts : List Token) (a : Option Test) (rest : List Token) → maybe (grammar.test (suc deep)) ts a rest → closes (next_kind rest) ≡ true → reading.test_by (suc deep) (place_at ts) (until_at (first ts)) ts ≡ Ok (a, rest)
+test_finds deep ts a rest (inl t) f =
     let h = t.front in let c = h.back in let v = c.back in
     let whole_is : rest ≡ v.between = t.back.1 ∙ v.back.1 in
     let told : a ≡ Some (record { at = place_at ts; word = c.given; condition = v.given }) =
     t.back.0 ∙ ap (λ (y : Test). Some y) (v.back.0 ∙ ap (λ (at : Span). record { at = at; word = c.given; condition = v.given }) h.front.0) in
-    test_read ts c.given c.between v.given v.between (subst (λ (m : List Token). Chosen until_at m c.given c.between) h.front.1 c.front) v.front (ap (λ (r : List Token). closes (next_kind r)) (sym whole_is) ∙ f)
+    test_read deep ts c.given c.between v.given v.between (subst (λ (m : List Token). Chosen until_at m c.given c.between) h.front.1 c.front) v.front (ap (λ (r : List Token). closes (next_kind r)) (sym whole_is) ∙ f)
     ∙ same_answer _ a v.between rest told whole_is
-test_finds ts a rest (inr t) f = rw (t.0, t.1, none_until ts (ap (λ (r : List Token). closes (next_kind r)) (sym t.1) ∙ f)) refl
+test_finds deep ts a rest (inr t) f = rw (t.0, t.1, none_until ts (ap (λ (r : List Token). closes (next_kind r)) (sym t.1) ∙ f)) refl
 
-test_within : (ts : List Token) (a : Option Test) (rest : List Token) → maybe grammar.test ts a rest → Suffixes rest ts
-test_within ts a rest (inl t) =
+test_within : (deep : ℕ) → (ts : List Token) (a : Option Test) (rest : List Token) → maybe (grammar.test (suc deep)) ts a rest → Suffixes rest ts
+test_within deep ts a rest (inl t) =
     let h = t.front in let c = h.back in let v = c.back in
-    rw (t.back.1 ∙ v.back.1) (end_of_end (exact_whole.within c.between v.given v.between v.front) (rw (c.front.behind, h.front.1) (leave_next ts)))
-test_within ts a rest (inr t) = rw (t.1) (same_end ts)
+    rw (t.back.1 ∙ v.back.1) (end_of_end ((exact_whole deep).within c.between v.given v.between v.front) (rw (c.front.behind, h.front.1) (leave_next ts)))
+test_within deep ts a rest (inr t) = rw (t.1) (same_end ts)
 
-pub exact_any_test : Exact reading.any_test (maybe grammar.test) closes
+pub exact_any_test : (deep : ℕ) → Exact (reading.any_test (suc deep)) (maybe (grammar.test (suc deep))) closes
 unfolding reading.any_test
-exact_any_test = record { sound = λ ts. test_sound ts (until_at (first ts)) refl; finds = test_finds; within = test_within }
+exact_any_test deep = record { sound = λ ts. test_sound deep ts (until_at (first ts)) refl; finds = test_finds deep; within = test_within deep }
 
-pub exact_last_test : (one : Option Test) → Exact (reading.last_test (is_some one)) (grammar.last_test one) closes
+pub exact_last_test : (deep : ℕ) → (one : Option Test) → Exact (reading.last_test (suc deep) (is_some one)) (grammar.last_test (suc deep) one) closes
 unfolding reading.last_test
-exact_last_test None = exact_any_test
-exact_last_test (Some other) = exact_gives None closes
+exact_last_test deep None = exact_any_test deep
+exact_last_test deep (Some other) = exact_gives None closes
 
 -- ---- cases
 
@@ -147,37 +147,37 @@ abbrev only_is : Follow
 only_is (Some (kinds.Word w.KwIs)) = true
 only_is other = false
 
-exact_is : (at : Span) → Exact (reading.is_case at) (Then (Chosen comparison_at) (λ which. Then expression (λ x. gives (case.Is at which x)))) comma_or_end
+exact_is : (deep : ℕ) → (at : Span) → Exact (reading.is_case (suc deep) at) (Then (Chosen comparison_at) (λ which. Then (expression (suc deep)) (λ x. gives (case.Is at which x)))) comma_or_end
 unfolding reading.is_case
-exact_is at = exact_chosen comparison_at (reading.is_by at) (λ which ts. and_then (whole ts) (λ x. pure (case.Is at which x))) (λ which. Then expression (λ x. gives (case.Is at which x))) comma_or_end
-    (λ ts P. tt) (λ which ts. refl) (λ which. exact_weaker (exact_made (λ x. case.Is at which x) exact_whole) comma_expression)
+exact_is deep at = exact_chosen comparison_at (reading.is_by (suc deep) at) (λ which ts. and_then (whole (suc deep) ts) (λ x. pure (case.Is at which x))) (λ which. Then (expression (suc deep)) (λ x. gives (case.Is at which x))) comma_or_end
+    (λ ts P. tt) (λ which ts. refl) (λ which. exact_weaker (exact_made (λ x. case.Is at which x) (exact_whole deep)) comma_expression)
 
-exact_from : (low : Expr) → Exact (reading.case_from low) (either (word w.KwTo >> Then expression (λ high. gives (case.Range low high))) (gives (case.Value low))) comma_or_end
+exact_from : (deep : ℕ) → (low : Expr) → Exact (reading.case_from (suc deep) low) (either (word w.KwTo >> Then (expression (suc deep)) (λ high. gives (case.Range low high))) (gives (case.Value low))) comma_or_end
 unfolding reading.case_from
-exact_from low = exact_behind (sees_word w.KwTo) (exact_weaker (exact_made (λ high. case.Range low high) exact_whole) comma_expression) (exact_gives (case.Value low) comma_or_end)
+exact_from deep low = exact_behind (sees_word w.KwTo) (exact_weaker (exact_made (λ high. case.Range low high) (exact_whole deep)) comma_expression) (exact_gives (case.Value low) comma_or_end)
     (word_none (case.Value low) w.KwTo comma_or_end refl)
 
-exact_case : Exact reading.one_case grammar.one_case comma_or_end
+pub exact_case : (deep : ℕ) → Exact (reading.one_case (suc deep)) (grammar.one_case (suc deep)) comma_or_end
 unfolding reading.one_case
-exact_case = as_exact (ended_behind (sees_word w.KwIs) (λ at. as_ended (exact_is at))
-    (as_ended (exact_then exact_whole (λ low. exact_from low) (λ low. starts_either comma_or_end ends_expression (starts_word w.KwTo _ comma_or_end ends_expression refl) (starts_gives (case.Value low) comma_or_end ends_expression comma_expression))))
-    (λ ts a rest t f. (value_no_word ts (value_seen ts t.given t.between t.front)).0))
+exact_case deep = as_exact (ended_behind (sees_word w.KwIs) (λ at. as_ended (exact_is deep at))
+    (as_ended (exact_then (exact_whole deep) (λ low. exact_from deep low) (λ low. starts_either comma_or_end ends_expression (starts_word w.KwTo _ comma_or_end ends_expression refl) (starts_gives (case.Value low) comma_or_end ends_expression comma_expression))))
+    (λ ts a rest t f. (value_no_word ts (value_seen deep ts t.given t.between t.front)).0))
 
-exact_cases_list : Exact reading.case_list (Listed grammar.one_case) closes
+pub exact_cases_list : (deep : ℕ) → Exact (reading.case_list (suc deep)) (Listed (grammar.one_case (suc deep))) closes
 unfolding reading.case_list reading.case_turn
-exact_cases_list = exact_list reading.one_case grammar.one_case comma_or_end closes exact_case closes_comma refl refl
+exact_cases_list deep = exact_list (reading.one_case (suc deep)) (grammar.one_case (suc deep)) comma_or_end closes (exact_case deep) closes_comma refl refl
 
 is_not_else : (ts : List Token) → sees_word w.KwIs ts ≡ true → sees_word w.KwElse ts ≡ false
 is_not_else ts is = no_word w.KwElse only_is ts refl (ap only_is (next_word w.KwIs ts is)) (sees_word w.KwElse ts) refl
 
-case_no_else : (ts : List Token) (x : Case) (rest : List Token) → grammar.one_case ts x rest → sees_word w.KwElse ts ≡ false
-case_no_else ts x rest (inl t) = is_not_else ts (token_then (sees_word w.KwIs) _ ts x rest t).is
-case_no_else ts x rest (inr t) = (value_no_word ts (value_seen ts t.given t.between t.front)).1
+case_no_else : (deep : ℕ) → (ts : List Token) (x : Case) (rest : List Token) → grammar.one_case (suc deep) ts x rest → sees_word w.KwElse ts ≡ false
+case_no_else deep ts x rest (inl t) = is_not_else ts (token_then (sees_word w.KwIs) _ ts x rest t).is
+case_no_else deep ts x rest (inr t) = (value_no_word ts (value_seen deep ts t.given t.between t.front)).1
 
-cases_no_else : (ts : List Token) (all : List Case) (rest : List Token) → Listed grammar.one_case ts all rest → sees_word w.KwElse ts ≡ false
-cases_no_else ts all rest (last a b x t) = case_no_else ts x rest t
-cases_no_else ts all rest (another a between b x behind t comma l) = case_no_else ts x between t
+cases_no_else : (deep : ℕ) → (ts : List Token) (all : List Case) (rest : List Token) → Listed (grammar.one_case (suc deep)) ts all rest → sees_word w.KwElse ts ≡ false
+cases_no_else deep ts all rest (last a b x t) = case_no_else deep ts x rest t
+cases_no_else deep ts all rest (another a between b x behind t comma l) = case_no_else deep ts x between t
 
-pub exact_cases : Exact reading.cases_ grammar.all_cases closes
+pub exact_cases : (deep : ℕ) → Exact (reading.cases_ (suc deep)) (grammar.all_cases (suc deep)) closes
 unfolding reading.cases_
-exact_cases = exact_behind (sees_word w.KwElse) (exact_gives cases.Else closes) (exact_made (λ all. cases.List all) exact_cases_list) (λ ts a rest t f. cases_no_else ts t.given t.between t.front)
+exact_cases deep = exact_behind (sees_word w.KwElse) (exact_gives cases.Else closes) (exact_made (λ all. cases.List all) (exact_cases_list deep)) (λ ts a rest t f. cases_no_else deep ts t.given t.between t.front)

@@ -1,5 +1,5 @@
 -- Statements without statements inside are read exactly.
-use Rattle.std.proofs.Common.{◌≡◌, ℕ, Bool, true, false, if◌then◌else◌, List, [], ◌∷◌, Option, Some, None, Ok, Err, refl, sym, ap, ◌∙◌, subst, ◌⊎◌, inl, inr, arith}
+use Rattle.std.proofs.Common.{◌≡◌, ℕ, suc, Bool, true, false, if◌then◌else◌, List, [], ◌∷◌, Option, Some, None, Ok, Err, refl, sym, ap, ◌∙◌, subst, ◌⊎◌, inl, inr, arith}
 use Rattle.fb_base.specs.declared.fault.Span.{Span}
 use Rattle.fb_lexer.specs.declared.token.Token.{Token}
 use Rattle.fb_lexer.specs.declared.token.TokenKind.{TokenKind}
@@ -38,17 +38,17 @@ use Rattle.parse_stmt.proofs.Values.{value_seen, value_kind, begins_kind, kind_o
 
 -- ---- arguments without parentheses
 
-pub exact_values : Exact values (Listed expression) closes
+pub exact_values : (deep : ℕ) → Exact (values (suc deep)) (Listed (expression (suc deep))) closes
 unfolding values value_turn
-exact_values = exact_list whole expression ends_expression closes exact_whole closes_expression refl refl
+exact_values deep = exact_list (whole (suc deep)) (expression (suc deep)) ends_expression closes (exact_whole deep) closes_expression refl refl
 
-listed_seen : (ts : List Token) (all : List Expr) (rest : List Token) → Listed expression ts all rest → sees_value ts ≡ true
-listed_seen ts all rest (last a b x t) = value_seen ts x rest t
-listed_seen ts all rest (another a between b x behind t comma l) = value_seen ts x between t
+listed_seen : (deep : ℕ) → (ts : List Token) (all : List Expr) (rest : List Token) → Listed (expression (suc deep)) ts all rest → sees_value ts ≡ true
+listed_seen deep ts all rest (last a b x t) = value_seen deep ts x rest t
+listed_seen deep ts all rest (another a between b x behind t comma l) = value_seen deep ts x between t
 
-pub exact_arguments : Exact arguments grammar.values closes
+pub exact_arguments : (deep : ℕ) → Exact (arguments (suc deep)) (grammar.values (suc deep)) closes
 unfolding arguments
-exact_arguments = exact_choose sees_value exact_values (exact_passed []) (λ ts all rest l f. listed_seen ts all rest l) (none_seen [])
+exact_arguments deep = exact_choose sees_value (exact_values deep) (exact_passed []) (λ ts all rest l f. listed_seen deep ts all rest l) (none_seen [])
 
 -- ---- a bare name
 
@@ -57,7 +57,7 @@ record Bare (ts : List Token) : Type 0 where
   is : IsName ts name_is (next ts)
   alone : (b : Bool) → holds goes_on (first (next ts)) ≡ b → b ≡ false
 
-name_kind : (kind : TokenKind) → is_name kind ≡ true → (text : List ℕ) × (kind ≡ kinds.Name text)
+pub name_kind : (kind : TokenKind) → is_name kind ≡ true → (text : List ℕ) × (kind ≡ kinds.Name text)
 name_kind (kinds.Name text) is = (text, refl)
 name_kind (kinds.Mark which) is = cc
 name_kind (kinds.Word which) is = cc
@@ -71,11 +71,11 @@ bare_by ts true true p q is = cc
 bare_by ts true false p q is = (p, q)
 bare_by ts false b p q is = cc
 
-bare_is : (ts : List Token) → sees_bare ts ≡ true → (sees_name ts ≡ true) × (holds goes_on (first (next ts)) ≡ false)
+pub bare_is : (ts : List Token) → sees_bare ts ≡ true → (sees_name ts ≡ true) × (holds goes_on (first (next ts)) ≡ false)
 unfolding sees_bare
 bare_is ts is = bare_by ts (sees_name ts) (holds goes_on (first (next ts))) refl refl is
 
-name_stands : (ts : List Token) → sees_name ts ≡ true → (n : Name) × IsName ts n (next ts)
+pub name_stands : (ts : List Token) → sees_name ts ≡ true → (n : Name) × IsName ts n (next ts)
 unfolding sees_name
 name_stands ts is =
     let t = holds_next is_name ts is in
@@ -83,9 +83,9 @@ name_stands ts is =
     (record { at = t.0.at; text = k.0 }, record { token = t.0; text = k.0; is = t.1; kind = k.1; named = refl })
 
 -- a name is a place
-place_of_name : (ts : List Token) (n : Name) (rest : List Token) → IsName ts n rest → place ts (e.Name n.at n.text) rest
+pub place_of_name : (deep : ℕ) → (ts : List Token) (n : Name) (rest : List Token) → IsName ts n rest → place (suc deep) ts (e.Name n.at n.text) rest
 unfolding sees first
-place_of_name ts n rest t = (
+place_of_name deep ts n rest t = (
   t.token ∷ [],
   1,
   t.is,
@@ -108,10 +108,10 @@ no_suffix_next [] is = refl
 no_suffix_next (t ∷ ts) is = no_suffix t.kind is
 
 -- a name with which nothing goes on is the whole place
-bare_read : (ts : List Token) (n : Name) (rest : List Token) → IsName ts n rest → holds goes_on (first rest) ≡ false → expr 200 14 ts ≡ Ok ((e.Name n.at n.text, 1), rest)
+bare_read : (deep : ℕ) → (ts : List Token) (n : Name) (rest : List Token) → IsName ts n rest → holds goes_on (first rest) ≡ false → expr (suc deep) 14 ts ≡ Ok ((e.Name n.at n.text, 1), rest)
 unfolding expr level operand primary first next
-bare_read ts n rest t off =
-    rw (t.is, t.kind, t.named) (ap (λ (o : Outcome Measured). and_then o (climb (expr 199) 199 14)) (suffixes_none 199 (e.Name t.token.at t.text, 1) rest (no_suffix_next rest off)) ∙ climb_none 199 14 (e.Name t.token.at t.text, 1) rest (no_operator rest))
+bare_read deep ts n rest t off =
+    rw (t.is, t.kind, t.named) (ap (λ (o : Outcome Measured). and_then o (climb (expr deep) deep 14)) (suffixes_none deep (e.Name t.token.at t.text, 1) rest (no_suffix_next rest off)) ∙ climb_none deep 14 (e.Name t.token.at t.text, 1) rest (no_operator rest))
 
 tree_in : Expr → Outcome Expr → Expr
 tree_in other (Ok p) = p.0
@@ -125,18 +125,18 @@ record SamePlace (x y : Expr) (one other : List Token) : Type 0 where
   tree : x ≡ y
   behind : one ≡ other
 
-place_alone : (ts : List Token) (n : Name) (rest : List Token) → IsName ts n rest → holds goes_on (first rest) ≡ false → steps.place ts ≡ Ok (e.Name n.at n.text, rest)
+place_alone : (deep : ℕ) → (ts : List Token) (n : Name) (rest : List Token) → IsName ts n rest → holds goes_on (first rest) ≡ false → steps.place (suc deep) ts ≡ Ok (e.Name n.at n.text, rest)
 unfolding steps.place sees first
-place_alone ts n rest t off =
-    let p = place_of_name ts n rest t in
-    rw (p.5, p.6) (ap (λ (o : Outcome Measured). and_then o (λ m r. Ok (m.0, r))) (bare_read ts n rest t off))
+place_alone deep ts n rest t off =
+    let p = place_of_name deep ts n rest t in
+    rw (p.5, p.6) (ap (λ (o : Outcome Measured). and_then o (λ m r. Ok (m.0, r))) (bare_read deep ts n rest t off))
 
 -- ... so a place that begins with it is it
-same_place : (ts : List Token) (n : Name) (rest : List Token) → IsName ts n rest → holds goes_on (first rest) ≡ false
-    → (x : Expr) (left : List Token) → place ts x left → ends_place (next_kind left) ≡ true → SamePlace x (e.Name n.at n.text) left rest
+same_place : (deep : ℕ) → (ts : List Token) (n : Name) (rest : List Token) → IsName ts n rest → holds goes_on (first rest) ≡ false
+    → (x : Expr) (left : List Token) → place (suc deep) ts x left → ends_place (next_kind left) ≡ true → SamePlace x (e.Name n.at n.text) left rest
 unfolding tree_in rest_in
-same_place ts n rest t off x left p f =
-    let both = sym (exact_place.finds ts x left p f) ∙ place_alone ts n rest t off in
+same_place deep ts n rest t off x left p f =
+    let both = sym ((exact_place deep).finds ts x left p f) ∙ place_alone deep ts n rest t off in
     record { tree = ap (tree_in x) both; behind = ap rest_in both }
 
 -- ---- assignments and calls
@@ -145,29 +145,29 @@ closes_place : Under closes ends_place
 closes_place = under_closes ends_place refl refl refl refl
 
 -- what an assignment's mark is followed by
-chosen_found : (at : Span) (left : Expr) (other : Reader Stmt) (ts : List Token) (how : Assignment × Span) (between : List Token) (x : Expr) (rest : List Token)
-    → Chosen assignment_at ts how between → expression between x rest → closes (next_kind rest) ≡ true
-    → assign_by at left other (assignment_at (first ts)) ts ≡ Ok (s.Assign at left how.0 how.1 x, rest)
+chosen_found : (deep : ℕ) → (at : Span) (left : Expr) (other : Reader Stmt) (ts : List Token) (how : Assignment × Span) (between : List Token) (x : Expr) (rest : List Token)
+    → Chosen assignment_at ts how between → expression (suc deep) between x rest → closes (next_kind rest) ≡ true
+    → assign_by (suc deep) at left other (assignment_at (first ts)) ts ≡ Ok (s.Assign at left how.0 how.1 x, rest)
 unfolding assign
-chosen_found at left other ts how between x rest c t f =
-    rw (c.is) (ap (λ (o : Outcome Expr). and_then o (λ y r. Ok (s.Assign at left how.0 how.1 y, r))) (exact_whole.finds (next ts) x rest (subst (λ (m : List Token). expression m x rest) c.behind t) (closes_expression (next_kind rest) f)))
+chosen_found deep at left other ts how between x rest c t f =
+    rw (c.is) (ap (λ (o : Outcome Expr). and_then o (λ y r. Ok (s.Assign at left how.0 how.1 y, r))) ((exact_whole deep).finds (next ts) x rest (subst (λ (m : List Token). expression (suc deep) m x rest) c.behind t) (closes_expression (next_kind rest) f)))
 
-abbrev MoreAssigned : Span → Expr → List Token → Stmt → List Token → Type 0
-MoreAssigned at left ts x rest = Then (Chosen assignment_at) (λ how. Then expression (λ y. gives (s.Assign at left how.0 how.1 y))) ts x rest
+abbrev MoreAssigned : (deep : ℕ) → Span → Expr → List Token → Stmt → List Token → Type 0
+MoreAssigned deep at left ts x rest = Then (Chosen assignment_at) (λ how. Then (expression (suc deep)) (λ y. gives (s.Assign at left how.0 how.1 y))) ts x rest
 
-assign_sound : (at : Span) (left : Expr) (other : Reader Stmt) (Q : Stmt → List Token → Type 0) (ts : List Token)
-    → Done Q (other ts) → ((x : Stmt) (rest : List Token) → MoreAssigned at left ts x rest → Q x rest)
-    → (o : Option (Assignment × Span)) → assignment_at (first ts) ≡ o → Done Q (assign_by at left other o ts)
+assign_sound : (deep : ℕ) → (at : Span) (left : Expr) (other : Reader Stmt) (Q : Stmt → List Token → Type 0) (ts : List Token)
+    → Done Q (other ts) → ((x : Stmt) (rest : List Token) → MoreAssigned deep at left ts x rest → Q x rest)
+    → (o : Option (Assignment × Span)) → assignment_at (first ts) ≡ o → Done Q (assign_by (suc deep) at left other o ts)
 unfolding assign
-assign_sound at left other Q ts one more None is = one
-assign_sound at left other Q ts one more (Some how) is =
-    bind (expression (next ts)) Q (whole (next ts)) _ (exact_whole.sound (next ts))
+assign_sound deep at left other Q ts one more None is = one
+assign_sound deep at left other Q ts one more (Some how) is =
+    bind (expression (suc deep) (next ts)) Q (whole (suc deep) (next ts)) _ ((exact_whole deep).sound (next ts))
     (λ y rest t. more (s.Assign at left how.0 how.1 y) rest (record { given = how; between = next ts; front = record { is = is; behind = refl }; back = record { given = y; between = rest; front = t; back = (refl, refl) } }))
 
-call_name_sound : (at : Span) (ts : List Token) (n : Name) (rest : List Token) → IsName ts n rest → is_alone rest ≡ true → Done (grammar.valued at ts) (call_name at n rest)
+call_name_sound : (deep : ℕ) → (at : Span) (ts : List Token) (n : Name) (rest : List Token) → IsName ts n rest → is_alone rest ≡ true → Done (grammar.valued (suc deep) at ts) (call_name (suc deep) at n rest)
 unfolding call_name
-call_name_sound at ts n rest t alone =
-    bind (grammar.values rest) (grammar.valued at ts) (arguments rest) _ (exact_arguments.sound rest)
+call_name_sound deep at ts n rest t alone =
+    bind (grammar.values (suc deep) rest) (grammar.valued (suc deep) at ts) (arguments (suc deep) rest) _ ((exact_arguments deep).sound rest)
     (λ all left r. inr (inr (record { given = n; between = rest; front = (t, alone); back = record { given = all; between = left; front = r; back = (refl, refl) } })))
 
 alone_if : (kind : TokenKind) → goes_on kind ≡ false → is_mark Open kind ≡ false
@@ -180,59 +180,59 @@ unfolding sees first
 alone_next [] is = refl
 alone_next (t ∷ ts) is = rw (alone_if t.kind is) refl
 
-named_sound : (at : Span) (ts : List Token) (n : Name) (rest : List Token) → IsName ts n rest → holds goes_on (first rest) ≡ false → Done (grammar.valued at ts) (named at n rest)
+named_sound : (deep : ℕ) → (at : Span) (ts : List Token) (n : Name) (rest : List Token) → IsName ts n rest → holds goes_on (first rest) ≡ false → Done (grammar.valued (suc deep) at ts) (named (suc deep) at n rest)
 unfolding named
-named_sound at ts n rest t off =
-    assign_sound at (e.Name n.at n.text) (call_name at n) (grammar.valued at ts) rest (call_name_sound at ts n rest t (alone_next rest off))
-    (λ x left r. inl (record { given = e.Name n.at n.text; between = rest; front = place_of_name ts n rest t; back = r })) (assignment_at (first rest)) refl
+named_sound deep at ts n rest t off =
+    assign_sound deep at (e.Name n.at n.text) (call_name (suc deep) at n) (grammar.valued (suc deep) at ts) rest (call_name_sound deep at ts n rest t (alone_next rest off))
+    (λ x left r. inl (record { given = e.Name n.at n.text; between = rest; front = place_of_name deep ts n rest t; back = r })) (assignment_at (first rest)) refl
 
-headed_sound : (at : Span) (ts : List Token) (x : Expr) (rest : List Token) → place ts x rest → (b : Bool) → is_call x ≡ b
-    → Done (grammar.valued at ts) ((if b then may_assign at x else must_assign at x) rest)
+headed_sound : (deep : ℕ) → (at : Span) (ts : List Token) (x : Expr) (rest : List Token) → place (suc deep) ts x rest → (b : Bool) → is_call x ≡ b
+    → Done (grammar.valued (suc deep) at ts) ((if b then may_assign (suc deep) at x else must_assign (suc deep) at x) rest)
 unfolding may_assign must_assign
-headed_sound at ts x rest p true is =
-    assign_sound at x (pure (s.Call at x)) (grammar.valued at ts) rest
+headed_sound deep at ts x rest p true is =
+    assign_sound deep at x (pure (s.Call at x)) (grammar.valued (suc deep) at ts) rest
     (inr (inl (record { given = x; between = rest; front = p; back = record { given = x; between = rest; front = (is, refl, refl); back = (refl, refl) } })))
     (λ y left r. inl (record { given = x; between = rest; front = p; back = r })) (assignment_at (first rest)) refl
-headed_sound at ts x rest p false is =
-    assign_sound at x _ (grammar.valued at ts) rest tt
+headed_sound deep at ts x rest p false is =
+    assign_sound deep at x _ (grammar.valued (suc deep) at ts) rest tt
     (λ y left r. inl (record { given = x; between = rest; front = p; back = r })) (assignment_at (first rest)) refl
 
-pub valued_sound : (at : Span) (ts : List Token) → Done (grammar.valued at ts) (valued at ts)
+pub valued_sound : (deep : ℕ) → (at : Span) (ts : List Token) → Done (grammar.valued (suc deep) at ts) (valued (suc deep) at ts)
 unfolding valued headed
-valued_sound at ts =
-    by_test (λ (o : Outcome Stmt). Done (grammar.valued at ts) o) (sees_bare ts) _ _
+valued_sound deep at ts =
+    by_test (λ (o : Outcome Stmt). Done (grammar.valued (suc deep) at ts) o) (sees_bare ts) _ _
     (λ is. let b = bare_is ts is in let n = name_stands ts b.0 in
-    subst (λ (o : Outcome Name). Done (grammar.valued at ts) (and_then o (named at))) (sym (exact_name.finds ts n.0 (next ts) n.1 refl)) (named_sound at ts n.0 (next ts) n.1 b.1))
-    (λ is. bind (place ts) (grammar.valued at ts) (steps.place ts) _ (exact_place.sound ts) (λ x rest p. headed_sound at ts x rest p (is_call x) refl))
+    subst (λ (o : Outcome Name). Done (grammar.valued (suc deep) at ts) (and_then o (named (suc deep) at))) (sym (exact_name.finds ts n.0 (next ts) n.1 refl)) (named_sound deep at ts n.0 (next ts) n.1 b.1))
+    (λ is. bind (place (suc deep) ts) (grammar.valued (suc deep) at ts) (steps.place (suc deep) ts) _ ((exact_place deep).sound ts) (λ x rest p. headed_sound deep at ts x rest p (is_call x) refl))
 
 bare_now : (ts : List Token) (n : Name) (rest : List Token) → IsName ts n rest → holds goes_on (first rest) ≡ false → sees_bare ts ≡ true
 unfolding sees_bare sees_name first next
 bare_now ts n rest t off = rw (t.is, t.kind, off) refl
 
-named_read : (at : Span) (ts : List Token) (n : Name) (rest : List Token) → IsName ts n rest → holds goes_on (first rest) ≡ false → valued at ts ≡ named at n rest
+named_read : (deep : ℕ) → (at : Span) (ts : List Token) (n : Name) (rest : List Token) → IsName ts n rest → holds goes_on (first rest) ≡ false → valued (suc deep) at ts ≡ named (suc deep) at n rest
 unfolding valued
-named_read at ts n rest t off = rw (bare_now ts n rest t off, exact_name.finds ts n rest t refl) refl
+named_read deep at ts n rest t off = rw (bare_now ts n rest t off, exact_name.finds ts n rest t refl) refl
 
-headed_assign : (at : Span) (left : Expr) (ts : List Token) (how : Assignment × Span) (between : List Token) (x : Expr) (rest : List Token)
-    → Chosen assignment_at ts how between → expression between x rest → closes (next_kind rest) ≡ true
-    → (b : Bool) → is_call left ≡ b → (if b then may_assign at left else must_assign at left) ts ≡ Ok (s.Assign at left how.0 how.1 x, rest)
+headed_assign : (deep : ℕ) → (at : Span) (left : Expr) (ts : List Token) (how : Assignment × Span) (between : List Token) (x : Expr) (rest : List Token)
+    → Chosen assignment_at ts how between → expression (suc deep) between x rest → closes (next_kind rest) ≡ true
+    → (b : Bool) → is_call left ≡ b → (if b then may_assign (suc deep) at left else must_assign (suc deep) at left) ts ≡ Ok (s.Assign at left how.0 how.1 x, rest)
 unfolding may_assign must_assign
-headed_assign at left ts how between x rest c t f true is = chosen_found at left _ ts how between x rest c t f
-headed_assign at left ts how between x rest c t f false is = chosen_found at left _ ts how between x rest c t f
+headed_assign deep at left ts how between x rest c t f true is = chosen_found deep at left _ ts how between x rest c t f
+headed_assign deep at left ts how between x rest c t f false is = chosen_found deep at left _ ts how between x rest c t f
 
-assigned_by : (at : Span) (ts : List Token) (left : Expr) (how : Assignment × Span) (before_it between : List Token) (x : Expr) (rest : List Token)
-    → place ts left before_it → Chosen assignment_at before_it how between → expression between x rest → closes (next_kind rest) ≡ true
-    → ends_place (next_kind before_it) ≡ true → (b : Bool) → sees_bare ts ≡ b → valued at ts ≡ Ok (s.Assign at left how.0 how.1 x, rest)
+assigned_by : (deep : ℕ) → (at : Span) (ts : List Token) (left : Expr) (how : Assignment × Span) (before_it between : List Token) (x : Expr) (rest : List Token)
+    → place (suc deep) ts left before_it → Chosen assignment_at before_it how between → expression (suc deep) between x rest → closes (next_kind rest) ≡ true
+    → ends_place (next_kind before_it) ≡ true → (b : Bool) → sees_bare ts ≡ b → valued (suc deep) at ts ≡ Ok (s.Assign at left how.0 how.1 x, rest)
 unfolding valued headed named may_assign must_assign
-assigned_by at ts left how before_it between x rest p c t f ends true is =
+assigned_by deep at ts left how before_it between x rest p c t f ends true is =
     let b = bare_is ts is in let n = name_stands ts b.0 in
-    let same = same_place ts n.0 (next ts) n.1 b.1 left before_it p ends in
-    named_read at ts n.0 (next ts) n.1 b.1
-    ∙ subst (λ (m : List Token). assign_by at (e.Name n.0.at n.0.text) (call_name at n.0) (assignment_at (first m)) m ≡ Ok (s.Assign at left how.0 how.1 x, rest)) same.behind
-    (subst (λ (l : Expr). assign_by at l (call_name at n.0) (assignment_at (first before_it)) before_it ≡ Ok (s.Assign at left how.0 how.1 x, rest)) same.tree
-    (chosen_found at left (call_name at n.0) before_it how between x rest c t f))
-assigned_by at ts left how before_it between x rest p c t f ends false is =
-    rw (is, exact_place.finds ts left before_it p ends) (headed_assign at left before_it how between x rest c t f (is_call left) refl)
+    let same = same_place deep ts n.0 (next ts) n.1 b.1 left before_it p ends in
+    named_read deep at ts n.0 (next ts) n.1 b.1
+    ∙ subst (λ (m : List Token). assign_by (suc deep) at (e.Name n.0.at n.0.text) (call_name (suc deep) at n.0) (assignment_at (first m)) m ≡ Ok (s.Assign at left how.0 how.1 x, rest)) same.behind
+    (subst (λ (l : Expr). assign_by (suc deep) at l (call_name (suc deep) at n.0) (assignment_at (first before_it)) before_it ≡ Ok (s.Assign at left how.0 how.1 x, rest)) same.tree
+    (chosen_found deep at left (call_name (suc deep) at n.0) before_it how between x rest c t f))
+assigned_by deep at ts left how before_it between x rest p c t f ends false is =
+    rw (is, (exact_place deep).finds ts left before_it p ends) (headed_assign deep at left before_it how between x rest c t f (is_call left) refl)
 
 place_before : (kind : TokenKind) (how : Assignment) → assignment_of kind ≡ Some how → ends_place (Some kind) ≡ true
 place_before (kinds.Mark marks.Equal) how is = refl
@@ -267,13 +267,13 @@ name_no_call : (at : Span) (text : List ℕ) → is_call (e.Name at text) ≡ fa
 unfolding out-Expr denote.Hole.Carrier.out
 name_no_call at text = refl
 
-called_by : (at : Span) (ts : List Token) (x : Expr) (rest : List Token) → place ts x rest → is_call x ≡ true → closes (next_kind rest) ≡ true → (b : Bool) → sees_bare ts ≡ b → valued at ts ≡ Ok (s.Call at x, rest)
+called_by : (deep : ℕ) → (at : Span) (ts : List Token) (x : Expr) (rest : List Token) → place (suc deep) ts x rest → is_call x ≡ true → closes (next_kind rest) ≡ true → (b : Bool) → sees_bare ts ≡ b → valued (suc deep) at ts ≡ Ok (s.Call at x, rest)
 unfolding valued headed may_assign
-called_by at ts x rest p call f true is =
+called_by deep at ts x rest p call f true is =
     let b = bare_is ts is in let n = name_stands ts b.0 in
-    let same = same_place ts n.0 (next ts) n.1 b.1 x rest p (closes_place (next_kind rest) f) in
+    let same = same_place deep ts n.0 (next ts) n.1 b.1 x rest p (closes_place (next_kind rest) f) in
     let not : true ≡ false = sym call ∙ ap is_call same.tree ∙ name_no_call n.0.at n.0.text in cc
-called_by at ts x rest p call f false is = rw (is, exact_place.finds ts x rest p (closes_place (next_kind rest) f), call, none_assigned rest f) refl
+called_by deep at ts x rest p call f false is = rw (is, (exact_place deep).finds ts x rest p (closes_place (next_kind rest) f), call, none_assigned rest f) refl
 
 -- what comes behind a name that is called without parentheses
 open_self : is_mark Open (kinds.Mark Open) ≡ true
@@ -311,46 +311,46 @@ record Apart (ts : List Token) : Type 0 where
   off : holds goes_on (first ts) ≡ false
   unassigned : assignment_at (first ts) ≡ None
 
-values_apart : (ts : List Token) (all : List Expr) (rest : List Token) → grammar.values ts all rest → is_alone ts ≡ true → closes (next_kind rest) ≡ true → Apart ts
-values_apart ts all rest (inl l) alone f = let v = listed_seen ts all rest l in record { off = value_no_mark ts v alone; unassigned = value_unassigned ts v }
-values_apart ts all rest (inr g) alone f =
+values_apart : (deep : ℕ) → (ts : List Token) (all : List Expr) (rest : List Token) → grammar.values (suc deep) ts all rest → is_alone ts ≡ true → closes (next_kind rest) ≡ true → Apart ts
+values_apart deep ts all rest (inl l) alone f = let v = listed_seen deep ts all rest l in record { off = value_no_mark ts v alone; unassigned = value_unassigned ts v }
+values_apart deep ts all rest (inr g) alone f =
     let c : closes (next_kind ts) ≡ true = ap (λ (r : List Token). closes (next_kind r)) (sym g.1) ∙ f in
     record { off = closed_no_mark ts c; unassigned = none_assigned ts c }
 
-name_called : (at : Span) (ts : List Token) (n : Name) (between : List Token) (all : List Expr) (rest : List Token) → IsName ts n between → is_alone between ≡ true
-    → grammar.values between all rest → closes (next_kind rest) ≡ true → valued at ts ≡ Ok (s.CallName at n all, rest)
+name_called : (deep : ℕ) → (at : Span) (ts : List Token) (n : Name) (between : List Token) (all : List Expr) (rest : List Token) → IsName ts n between → is_alone between ≡ true
+    → grammar.values (suc deep) between all rest → closes (next_kind rest) ≡ true → valued (suc deep) at ts ≡ Ok (s.CallName at n all, rest)
 unfolding named call_name
-name_called at ts n between all rest t alone v f =
-    let a = values_apart between all rest v alone f in
-    named_read at ts n between t a.off ∙ rw (a.unassigned, exact_arguments.finds between all rest v f) refl
+name_called deep at ts n between all rest t alone v f =
+    let a = values_apart deep between all rest v alone f in
+    named_read deep at ts n between t a.off ∙ rw (a.unassigned, (exact_arguments deep).finds between all rest v f) refl
 
-valued_finds : (at : Span) (ts : List Token) (x : Stmt) (rest : List Token) → grammar.valued at ts x rest → closes (next_kind rest) ≡ true → valued at ts ≡ Ok (x, rest)
-valued_finds at ts x rest (inl t) f =
+valued_finds : (deep : ℕ) → (at : Span) (ts : List Token) (x : Stmt) (rest : List Token) → grammar.valued (suc deep) at ts x rest → closes (next_kind rest) ≡ true → valued (suc deep) at ts ≡ Ok (x, rest)
+valued_finds deep at ts x rest (inl t) f =
     let c = t.back in let g = c.back in
-    assigned_by at ts t.given c.given t.between c.between g.given g.between t.front c.front g.front
+    assigned_by deep at ts t.given c.given t.between c.between g.given g.between t.front c.front g.front
     (ap (λ (r : List Token). closes (next_kind r)) (sym g.back.1) ∙ f) (chosen_ends t.between c.given c.front.is) (sees_bare ts) refl
     ∙ same_answer _ x _ rest g.back.0 g.back.1
-valued_finds at ts x rest (inr (inl t)) f =
+valued_finds deep at ts x rest (inr (inl t)) f =
     let c = t.back in
     let r : rest ≡ t.between = c.back.1 ∙ c.front.2 in
-    called_by at ts t.given t.between t.front c.front.0 (ap (λ (m : List Token). closes (next_kind m)) (sym r) ∙ f) (sees_bare ts) refl
+    called_by deep at ts t.given t.between t.front c.front.0 (ap (λ (m : List Token). closes (next_kind m)) (sym r) ∙ f) (sees_bare ts) refl
     ∙ same_answer _ x _ rest c.back.0 r
-valued_finds at ts x rest (inr (inr t)) f =
+valued_finds deep at ts x rest (inr (inr t)) f =
     let v = t.back in
-    name_called at ts t.given t.between v.given v.between t.front.0 t.front.1 v.front (ap (λ (r : List Token). closes (next_kind r)) (sym v.back.1) ∙ f)
+    name_called deep at ts t.given t.between v.given v.between t.front.0 t.front.1 v.front (ap (λ (r : List Token). closes (next_kind r)) (sym v.back.1) ∙ f)
     ∙ same_answer _ x _ rest v.back.0 v.back.1
 
-assignment_within : (at : Span) → (ts : List Token) (x : Stmt) (rest : List Token) → grammar.valued at ts x rest → Suffixes rest ts
-assignment_within at ts x rest (inl t) =
+assignment_within : (deep : ℕ) → (at : Span) → (ts : List Token) (x : Stmt) (rest : List Token) → grammar.valued (suc deep) at ts x rest → Suffixes rest ts
+assignment_within deep at ts x rest (inl t) =
     let c = t.back in let g = c.back in
-    rw (g.back.1) (end_of_end (exact_whole.within c.between g.given g.between g.front) (rw (c.front.behind) (end_of_end (leave_next t.between) (exact_place.within ts t.given t.between t.front))))
-assignment_within at ts x rest (inr (inl t)) = rw (t.back.back.1 ∙ t.back.front.2) (exact_place.within ts t.given t.between t.front)
-assignment_within at ts x rest (inr (inr t)) =
+    rw (g.back.1) (end_of_end ((exact_whole deep).within c.between g.given g.between g.front) (rw (c.front.behind) (end_of_end (leave_next t.between) ((exact_place deep).within ts t.given t.between t.front))))
+assignment_within deep at ts x rest (inr (inl t)) = rw (t.back.back.1 ∙ t.back.front.2) ((exact_place deep).within ts t.given t.between t.front)
+assignment_within deep at ts x rest (inr (inr t)) =
     let v = t.back in
-    rw (v.back.1) (end_of_end (exact_arguments.within t.between v.given v.between v.front) (exact_name.within ts t.given t.between t.front.0))
+    rw (v.back.1) (end_of_end ((exact_arguments deep).within t.between v.given v.between v.front) (exact_name.within ts t.given t.between t.front.0))
 
-pub exact_valued : (at : Span) → Exact (valued at) (grammar.valued at) closes
-exact_valued at = record { sound = valued_sound at; finds = valued_finds at; within = assignment_within at }
+pub exact_valued : (deep : ℕ) → (at : Span) → Exact (valued (suc deep) at) (grammar.valued (suc deep) at) closes
+exact_valued deep at = record { sound = valued_sound deep at; finds = valued_finds deep at; within = assignment_within deep at }
 
 -- ---- words that are called
 
@@ -385,9 +385,9 @@ exact_tested {A = A} test {p = p} {q = q} {P = P} {Q = Q} {F = F} one other = re
 pub exact_taking : {A : Type 0} {p : Reader A} {P : Phrase A} {F : Follow} → Exact p P F → Exact (λ ts. and_then (take_token ts) (λ u. p)) (Then any_token (λ u. P)) F
 exact_taking x = exact_then exact_any (λ u. x) (λ u ts a rest t f. refl)
 
-pub exact_called : (at : Span) (which : CallWord) → Exact (called at which) (grammar.call_word at which) closes
+pub exact_called : (deep : ℕ) → (at : Span) (which : CallWord) → Exact (called (suc deep) at which) (grammar.call_word (suc deep) at which) closes
 unfolding called
-exact_called at which = exact_tested sees_open_behind (exact_valued at) (exact_taking (exact_made (λ all. s.CallWord at which all) exact_arguments))
+exact_called deep at which = exact_tested sees_open_behind (exact_valued deep at) (exact_taking (exact_made (λ all. s.CallWord at which all) (exact_arguments deep)))
 
 -- ---- marks and words of tables
 
@@ -423,21 +423,21 @@ exact_continue at = exact_taking (exact_chosen reading.continue_at (reading.cont
 
 -- ---- the others
 
-pub exact_result : (at : Span) → Exact (reading.result_ at) (any_token >> (mark Equal >> Then expression (λ x. gives (s.Result at x)))) closes
+pub exact_result : (deep : ℕ) → (at : Span) → Exact (reading.result_ (suc deep) at) (any_token >> (mark Equal >> Then (expression (suc deep)) (λ x. gives (s.Result at x)))) closes
 unfolding reading.result_
-exact_result at = exact_taking (exact_then (exact_mark Equal) (λ u. exact_weaker (exact_made (λ x. s.Result at x) exact_whole) closes_expression) (λ u ts a rest t f. refl))
+exact_result deep at = exact_taking (exact_then (exact_mark Equal) (λ u. exact_weaker (exact_made (λ x. s.Result at x) (exact_whole deep)) closes_expression) (λ u ts a rest t f. refl))
 
-pub exact_line_input : (at : Span) → Exact (reading.line_input at) (any_token >> (word w.KwInput >> Then place (λ x. gives (s.LineInput at x)))) closes
+pub exact_line_input : (deep : ℕ) → (at : Span) → Exact (reading.line_input (suc deep) at) (any_token >> (word w.KwInput >> Then (place (suc deep)) (λ x. gives (s.LineInput at x)))) closes
 unfolding reading.line_input
-exact_line_input at = exact_taking (exact_then (exact_word w.KwInput) (λ u. exact_weaker (exact_made (λ x. s.LineInput at x) exact_place) closes_place) (λ u ts a rest t f. refl))
+exact_line_input deep at = exact_taking (exact_then (exact_word w.KwInput) (λ u. exact_weaker (exact_made (λ x. s.LineInput at x) (exact_place deep)) closes_place) (λ u ts a rest t f. refl))
 
-pub exact_return : (at : Span) → Exact (reading.return_ at) (any_token >> Then (maybe expression) (λ x. gives (s.Return at x))) closes
+pub exact_return : (deep : ℕ) → (at : Span) → Exact (reading.return_ (suc deep) at) (any_token >> Then (maybe (expression (suc deep))) (λ x. gives (s.Return at x))) closes
 unfolding reading.return_
-exact_return at = exact_taking (exact_made (λ x. s.Return at x) exact_any_value)
+exact_return deep at = exact_taking (exact_made (λ x. s.Return at x) (exact_any_value deep))
 
-pub exact_end : (at : Span) → Exact (reading.end_ at) (any_token >> Then (maybe expression) (λ x. gives (s.End at x))) closes
+pub exact_end : (deep : ℕ) → (at : Span) → Exact (reading.end_ (suc deep) at) (any_token >> Then (maybe (expression (suc deep))) (λ x. gives (s.End at x))) closes
 unfolding reading.end_
-exact_end at = exact_taking (exact_made (λ x. s.End at x) exact_any_value)
+exact_end deep at = exact_taking (exact_made (λ x. s.End at x) (exact_any_value deep))
 
 value_no_bracket : (kind : TokenKind) → begins_kind kind ≡ true → is_mark OpenBracket kind ≡ false
 unfolding same_mark
@@ -454,7 +454,7 @@ unfolding reading.brackets
 exact_brackets = exact_behind (sees OpenBracket) (exact_then (exact_mark CloseBracket) (λ u. exact_gives true value_kind) (λ u ts a rest t f. refl)) (exact_gives false value_kind)
     (λ ts a rest t f. bracket_apart ts (ap (λ (r : List Token). value_kind (next_kind r)) (sym t.1) ∙ f))
 
-pub exact_delete : (at : Span) → Exact (reading.delete at) (any_token >> Then (either (mark OpenBracket >> (mark CloseBracket >> gives true)) (gives false)) (λ all. Then expression (λ x. gives (s.Delete at all x)))) closes
+pub exact_delete : (deep : ℕ) → (at : Span) → Exact (reading.delete (suc deep) at) (any_token >> Then (either (mark OpenBracket >> (mark CloseBracket >> gives true)) (gives false)) (λ all. Then (expression (suc deep)) (λ x. gives (s.Delete at all x)))) closes
 unfolding reading.delete
-exact_delete at = exact_taking (exact_then exact_brackets (λ all. exact_weaker (exact_made (λ x. s.Delete at all x) exact_whole) closes_expression)
-    (λ all ts x rest t f. sym (kind_of_value ts) ∙ value_seen ts t.given t.between t.front))
+exact_delete deep at = exact_taking (exact_then exact_brackets (λ all. exact_weaker (exact_made (λ x. s.Delete at all x) (exact_whole deep)) closes_expression)
+    (λ all ts x rest t f. sym (kind_of_value ts) ∙ value_seen deep ts t.given t.between t.front))

@@ -1,5 +1,5 @@
 -- Procedures and Types are read exactly.
-use Rattle.std.proofs.Common.{◌≡◌, Bool, true, false, if◌then◌else◌, List, [], ◌∷◌, Some, None, Ok, refl, sym, ap, ◌∙◌, subst, inl, inr}
+use Rattle.std.proofs.Common.{◌≡◌, ℕ, suc, Bool, true, false, if◌then◌else◌, List, [], ◌∷◌, Some, None, Ok, refl, sym, ap, ◌∙◌, subst, inl, inr}
 use Rattle.fb_base.specs.declared.fault.Span.{Span}
 use Rattle.fb_lexer.specs.declared.token.Token.{Token}
 use Rattle.fb_lexer.specs.declared.token.TokenKind.{TokenKind}
@@ -80,19 +80,19 @@ end_two which ts e = end_both which ts (sees_word w.KwEnd ts) refl e
 abbrev ends_by_word : Closer → Type 0
 ends_by_word closer = (ts : List Token) → closed closer ts ≡ sees_end (grammar.end_word closer) ts
 
-abbrev proc_body : Closer → Reader Block
-proc_body closer = blocks.body (blocks.stmt 199) 199 levels.Procedure lines.Free closer
+abbrev proc_body : (deep room : ℕ) → Closer → Reader Block
+proc_body deep room closer = blocks.body (suc deep) (blocks.stmt (suc deep) room) room levels.Procedure lines.Free closer
 
-body_closed : (closer : Closer) (ts : List Token) → Done (λ b rest. statements.body (statements.stmt 199) levels.Procedure lines.Free ts b rest × (closed closer rest ≡ true)) (proc_body closer ts)
-body_closed closer ts =
-    both (statements.body (statements.stmt 199) levels.Procedure lines.Free ts) (λ b rest. closed closer rest ≡ true) (proc_body closer ts)
-    ((ended_body (blocks.stmt 199) 199 (statements.stmt 199) (inside_of 199) levels.Procedure lines.Free closer).sound ts) (body_ends (blocks.stmt 199) 199 (statements.stmt 199) (inside_of 199) levels.Procedure lines.Free closer ts)
+body_closed : (deep room : ℕ) → (closer : Closer) (ts : List Token) → Done (λ b rest. statements.body (suc deep) (statements.stmt (suc deep) room) levels.Procedure lines.Free ts b rest × (closed closer rest ≡ true)) (proc_body deep room closer ts)
+body_closed deep room closer ts =
+    both (statements.body (suc deep) (statements.stmt (suc deep) room) levels.Procedure lines.Free ts) (λ b rest. closed closer rest ≡ true) (proc_body deep room closer ts)
+    ((ended_body deep (blocks.stmt (suc deep) room) room (statements.stmt (suc deep) room) (inside_of deep room) levels.Procedure lines.Free closer).sound ts) (body_ends deep (blocks.stmt (suc deep) room) room (statements.stmt (suc deep) room) (inside_of deep room) levels.Procedure lines.Free closer ts)
 
 abbrev two_more : Block → Reader Block
 two_more b = λ us. and_then (take_token us) (λ u. λ vs. and_then (take_token vs) (λ v. pure b))
 
-abbrev BodyEnd : Closer → Phrase Block
-BodyEnd closer = Then (statements.body (statements.stmt 199) levels.Procedure lines.Free) (λ b. Then (end_of (grammar.end_word closer)) (λ at. gives b))
+abbrev BodyEnd : (deep room : ℕ) → Closer → Phrase Block
+BodyEnd deep room closer = Then (statements.body (suc deep) (statements.stmt (suc deep) room) levels.Procedure lines.Free) (λ b. Then (end_of (grammar.end_word closer)) (λ at. gives b))
 
 end_stands : (which : Word) (ts : List Token) → (sees_word w.KwEnd ts ≡ true) × (sees_word which (next ts) ≡ true) → end_of which ts (place_at ts) (next (next ts))
 end_stands which ts e = record { given = place_at ts; between = ts; front = (refl, refl); back = record { given = tt; between = next ts; front = (e.0, refl); back = record { given = tt; between = next (next ts); front = (e.1, refl); back = (refl, refl) } } }
@@ -105,22 +105,22 @@ end_is which ts at rest t =
     let n : sees_word which (next ts) ≡ true = ap (λ (m : List Token). sees_word which (next m)) (sym same) ∙ ap (sees_word which) (sym t.back.front.1) ∙ t.back.back.front.0 in
     (rw e n, t.back.back.back.1 ∙ t.back.back.front.1 ∙ ap next (t.back.front.1) ∙ ap (λ (m : List Token). next (next m)) same)
 
-exact_body_end : (closer : Closer) → ends_by_word closer → (F : Follow) → Exact (λ ts. and_then (proc_body closer ts) two_more) (BodyEnd closer) F
-exact_body_end closer same F = record {
-  sound = λ ts. bind (λ b rest. statements.body (statements.stmt 199) levels.Procedure lines.Free ts b rest × (closed closer rest ≡ true)) (BodyEnd closer ts) (proc_body closer ts) two_more (body_closed closer ts)
+exact_body_end : (deep room : ℕ) → (closer : Closer) → ends_by_word closer → (F : Follow) → Exact (λ ts. and_then (proc_body deep room closer ts) two_more) (BodyEnd deep room closer) F
+exact_body_end deep room closer same F = record {
+  sound = λ ts. bind (λ b rest. statements.body (suc deep) (statements.stmt (suc deep) room) levels.Procedure lines.Free ts b rest × (closed closer rest ≡ true)) (BodyEnd deep room closer ts) (proc_body deep room closer ts) two_more (body_closed deep room closer ts)
       (λ b rest t. record { given = b; between = rest; front = t.0; back = record { given = place_at rest; between = next (next rest); front = end_stands (grammar.end_word closer) rest (end_two (grammar.end_word closer) rest (sym (same rest) ∙ t.1)); back = (refl, refl) } });
   finds = λ ts b rest t f.
       let e = end_is (grammar.end_word closer) t.between t.back.given t.back.between t.back.front in
-      ap (λ (o : Outcome Block). and_then o two_more) ((ended_body (blocks.stmt 199) 199 (statements.stmt 199) (inside_of 199) levels.Procedure lines.Free closer).finds ts t.given t.between t.front (same t.between ∙ e.0))
+      ap (λ (o : Outcome Block). and_then o two_more) ((ended_body deep (blocks.stmt (suc deep) room) room (statements.stmt (suc deep) room) (inside_of deep room) levels.Procedure lines.Free closer).finds ts t.given t.between t.front (same t.between ∙ e.0))
       ∙ ap Ok (rw (sym t.back.back.0, sym (t.back.back.1 ∙ e.1)) refl);
   within = λ ts b rest t.
       let e = end_is (grammar.end_word closer) t.between t.back.given t.back.between t.back.front in
-      rw (t.back.back.1 ∙ e.1) (end_of_end (leave_next (next t.between)) (end_of_end (leave_next t.between) ((ended_body (blocks.stmt 199) 199 (statements.stmt 199) (inside_of 199) levels.Procedure lines.Free closer).within ts t.given t.between t.front)));
+      rw (t.back.back.1 ∙ e.1) (end_of_end (leave_next (next t.between)) (end_of_end (leave_next t.between) ((ended_body deep (blocks.stmt (suc deep) room) room (statements.stmt (suc deep) room) (inside_of deep room) levels.Procedure lines.Free closer).within ts t.given t.between t.front)));
 }
 
-pub exact_ended : (closer : Closer) → ends_by_word closer → (F : Follow) → Exact (reading.procedure_body closer) (grammar.ended_by closer) F
+pub exact_ended : (deep room : ℕ) → (closer : Closer) → ends_by_word closer → (F : Follow) → Exact (reading.procedure_body (suc deep) room closer) (grammar.ended_by (suc deep) room closer) F
 unfolding reading.procedure_body reading.statements
-exact_ended closer same F = exact_then (exact_sep lines.Free) (λ u. exact_body_end closer same F) (λ u ts a rest t f. refl)
+exact_ended deep room closer same F = exact_then (exact_sep lines.Free) (λ u. exact_body_end deep room closer same F) (λ u ts a rest t f. refl)
 
 -- an opening whose closer is one of a procedure
 abbrev Openings : (Span → Phrase Opening) → Type 0
@@ -265,31 +265,31 @@ exact_operator_opened at = exact_choose sees_name (exact_let at) (exact_mark_ope
 
 -- ---- whole procedures
 
-abbrev Parts : (Span → Phrase Opening) → Span → Phrase (ProcedureKind × Block)
-Parts P at = Then (P at) (λ o. Then (grammar.ended_by o.1) (λ b. gives (o.0, b)))
+abbrev Parts : (deep room : ℕ) → (Span → Phrase Opening) → Span → Phrase (ProcedureKind × Block)
+Parts deep room P at = Then (P at) (λ o. Then (grammar.ended_by (suc deep) room o.1) (λ b. gives (o.0, b)))
 
-abbrev parts_read : (Span → Reader Opening) → Span → Reader (ProcedureKind × Block)
-parts_read p at = λ ts. and_then (p at ts) (λ o. λ us. and_then (reading.procedure_body o.1 us) (λ b. pure (o.0, b)))
+abbrev parts_read : (deep room : ℕ) → (Span → Reader Opening) → Span → Reader (ProcedureKind × Block)
+parts_read deep room p at = λ ts. and_then (p at ts) (λ o. λ us. and_then (reading.procedure_body (suc deep) room o.1 us) (λ b. pure (o.0, b)))
 
-module _ (p : Span → Reader Opening) (P : Span → Phrase Opening) (x : (at : Span) → Exact (p at) (P at) closes) (are : (at : Span) (ts : List Token) (o : Opening) (rest : List Token) → P at ts o rest → ends_by_word o.1) where
-  parts_sound : (at : Span) (ts : List Token) → Done (Parts P at ts) (parts_read p at ts)
-  parts_sound at ts = bind (P at ts) (Parts P at ts) (p at ts) _ ((x at).sound ts)
-      (λ o between t. bind (grammar.ended_by o.1 between) (Parts P at ts) (reading.procedure_body o.1 between) _ ((exact_ended o.1 (are at ts o between t) closes).sound between)
+module _ (deep room : ℕ) (p : Span → Reader Opening) (P : Span → Phrase Opening) (x : (at : Span) → Exact (p at) (P at) closes) (are : (at : Span) (ts : List Token) (o : Opening) (rest : List Token) → P at ts o rest → ends_by_word o.1) where
+  parts_sound : (at : Span) (ts : List Token) → Done (Parts deep room P at ts) (parts_read deep room p at ts)
+  parts_sound at ts = bind (P at ts) (Parts deep room P at ts) (p at ts) _ ((x at).sound ts)
+      (λ o between t. bind (grammar.ended_by (suc deep) room o.1 between) (Parts deep room P at ts) (reading.procedure_body (suc deep) room o.1 between) _ ((exact_ended deep room o.1 (are at ts o between t) closes).sound between)
       (λ b rest r. record { given = o; between = between; front = t; back = record { given = b; between = rest; front = r; back = (refl, refl) } }))
 
-  parts_finds : (at : Span) (ts : List Token) (a : ProcedureKind × Block) (rest : List Token) → Parts P at ts a rest → closes (next_kind rest) ≡ true → parts_read p at ts ≡ Ok (a, rest)
+  parts_finds : (at : Span) (ts : List Token) (a : ProcedureKind × Block) (rest : List Token) → Parts deep room P at ts a rest → closes (next_kind rest) ≡ true → parts_read deep room p at ts ≡ Ok (a, rest)
   parts_finds at ts a rest t f =
       let b = t.back in
-      let e = exact_ended t.given.1 (are at ts t.given t.between t.front) closes in
-      ap (λ (o : Outcome Opening). and_then o (λ o us. and_then (reading.procedure_body o.1 us) (λ b. pure (o.0, b)))) ((x at).finds ts t.given t.between t.front (sep_closes lines.Free t.between b.front.front.0))
+      let e = exact_ended deep room t.given.1 (are at ts t.given t.between t.front) closes in
+      ap (λ (o : Outcome Opening). and_then o (λ o us. and_then (reading.procedure_body (suc deep) room o.1 us) (λ b. pure (o.0, b)))) ((x at).finds ts t.given t.between t.front (sep_closes lines.Free t.between b.front.front.0))
       ∙ ap (λ (o : Outcome Block). and_then o (λ b. pure (t.given.0, b))) (e.finds t.between b.given b.between b.front (ap (λ (r : List Token). closes (next_kind r)) (sym b.back.1) ∙ f))
       ∙ ap Ok (rw (sym b.back.0, sym b.back.1) refl)
 
-  exact_parts : (at : Span) → Exact (parts_read p at) (Parts P at) closes
+  exact_parts : (at : Span) → Exact (parts_read deep room p at) (Parts deep room P at) closes
   exact_parts at = record {
     sound = parts_sound at;
     finds = parts_finds at;
-    within = λ ts a rest t. rw (t.back.back.1) (end_of_end ((exact_ended t.given.1 (are at ts t.given t.between t.front) closes).within t.between t.back.given t.back.between t.back.front) ((x at).within ts t.given t.between t.front));
+    within = λ ts a rest t. rw (t.back.back.1) (end_of_end ((exact_ended deep room t.given.1 (are at ts t.given t.between t.front) closes).within t.between t.back.given t.back.between t.back.front) ((x at).within ts t.given t.between t.front));
   }
 
 closer_is : {closer : Closer} (o : Opening) → o.1 ≡ closer → ends_by_word closer → ends_by_word o.1
@@ -310,22 +310,22 @@ operator_by : (at : Span) (ts : List Token) (o : Opening) (rest : List Token) �
 operator_by at ts o rest (inl t) = closer_is o (closer_of o _ closers.Operator t.back.back.back.back.back.0) operator_same
 operator_by at ts o rest (inr t) = closer_is o (closer_of o _ closers.Operator t.back.back.back.back.back.0) operator_same
 
-exact_sub_parts : (at : Span) → Exact (parts_read (reading.opened words.Sub) at) (Parts (λ at. Then phrases.name (λ n. grammar.sub_behind at n)) at) closes
-exact_sub_parts = exact_parts (reading.opened words.Sub) (λ at. Then phrases.name (λ n. grammar.sub_behind at n)) exact_sub_opened (λ at ts o rest t. sub_by at t.given t.between o rest t.back)
+exact_sub_parts : (deep room : ℕ) → (at : Span) → Exact (parts_read deep room (reading.opened words.Sub) at) (Parts deep room (λ at. Then phrases.name (λ n. grammar.sub_behind at n)) at) closes
+exact_sub_parts deep room = exact_parts deep room (reading.opened words.Sub) (λ at. Then phrases.name (λ n. grammar.sub_behind at n)) exact_sub_opened (λ at ts o rest t. sub_by at t.given t.between o rest t.back)
 
-exact_function_parts : (at : Span) → Exact (parts_read (reading.opened words.Function) at) (Parts (λ at. Then phrases.name (λ n. grammar.function_behind at n)) at) closes
-exact_function_parts = exact_parts (reading.opened words.Function) (λ at. Then phrases.name (λ n. grammar.function_behind at n)) exact_function_opened (λ at ts o rest t. function_by at t.given t.between o rest t.back)
+exact_function_parts : (deep room : ℕ) → (at : Span) → Exact (parts_read deep room (reading.opened words.Function) at) (Parts deep room (λ at. Then phrases.name (λ n. grammar.function_behind at n)) at) closes
+exact_function_parts deep room = exact_parts deep room (reading.opened words.Function) (λ at. Then phrases.name (λ n. grammar.function_behind at n)) exact_function_opened (λ at ts o rest t. function_by at t.given t.between o rest t.back)
 
-exact_constructor_parts : (at : Span) → Exact (parts_read (reading.opened words.Constructor) at) (Parts grammar.constructor at) closes
-exact_constructor_parts = exact_parts (reading.opened words.Constructor) grammar.constructor exact_constructor (λ at ts o rest t. closer_is o (closer_of o _ closers.Constructor t.back.back.0) constructor_same)
+exact_constructor_parts : (deep room : ℕ) → (at : Span) → Exact (parts_read deep room (reading.opened words.Constructor) at) (Parts deep room grammar.constructor at) closes
+exact_constructor_parts deep room = exact_parts deep room (reading.opened words.Constructor) grammar.constructor exact_constructor (λ at ts o rest t. closer_is o (closer_of o _ closers.Constructor t.back.back.0) constructor_same)
 
-exact_destructor_parts : (at : Span) → Exact (parts_read (reading.opened words.Destructor) at) (Parts grammar.destructor at) closes
-exact_destructor_parts = exact_parts (reading.opened words.Destructor) grammar.destructor exact_destructor (λ at ts o rest t. closer_is o (closer_of o _ closers.Destructor t.back.back.0) destructor_same)
+exact_destructor_parts : (deep room : ℕ) → (at : Span) → Exact (parts_read deep room (reading.opened words.Destructor) at) (Parts deep room grammar.destructor at) closes
+exact_destructor_parts deep room = exact_parts deep room (reading.opened words.Destructor) grammar.destructor exact_destructor (λ at ts o rest t. closer_is o (closer_of o _ closers.Destructor t.back.back.0) destructor_same)
 
-exact_operator_parts : (at : Span) → Exact (parts_read (reading.opened words.Operator) at) (Parts (λ at. either (grammar.let_operator at) (grammar.mark_operator at)) at) closes
-exact_operator_parts = exact_parts (reading.opened words.Operator) (λ at. either (grammar.let_operator at) (grammar.mark_operator at)) exact_operator_opened operator_by
+exact_operator_parts : (deep room : ℕ) → (at : Span) → Exact (parts_read deep room (reading.opened words.Operator) at) (Parts deep room (λ at. either (grammar.let_operator at) (grammar.mark_operator at)) at) closes
+exact_operator_parts deep room = exact_parts deep room (reading.opened words.Operator) (λ at. either (grammar.let_operator at) (grammar.mark_operator at)) exact_operator_opened operator_by
 
-abbrev OpenedPhrase : ProcedureWord → Span → Phrase Opening
+abbrev pub OpenedPhrase : ProcedureWord → Span → Phrase Opening
 OpenedPhrase words.Sub at = Then phrases.name (λ n. grammar.sub_behind at n)
 OpenedPhrase words.Function at = Then phrases.name (λ n. grammar.function_behind at n)
 OpenedPhrase words.Constructor at = grammar.constructor at
@@ -340,31 +340,31 @@ begin_word words.Constructor = w.KwConstructor
 begin_word words.Destructor = w.KwDestructor
 begin_word words.Operator = w.KwOperator
 
-exact_all_parts : (which : ProcedureWord) (at : Span) → Exact (parts_read (reading.opened which) at) (Parts (OpenedPhrase which) at) closes
-exact_all_parts words.Sub at = exact_sub_parts at
-exact_all_parts words.Function at = exact_function_parts at
-exact_all_parts words.Constructor at = exact_constructor_parts at
-exact_all_parts words.Destructor at = exact_destructor_parts at
-exact_all_parts words.Operator at = exact_operator_parts at
+exact_all_parts : (deep room : ℕ) → (which : ProcedureWord) (at : Span) → Exact (parts_read deep room (reading.opened which) at) (Parts deep room (OpenedPhrase which) at) closes
+exact_all_parts deep room words.Sub at = exact_sub_parts deep room at
+exact_all_parts deep room words.Function at = exact_function_parts deep room at
+exact_all_parts deep room words.Constructor at = exact_constructor_parts deep room at
+exact_all_parts deep room words.Destructor at = exact_destructor_parts deep room at
+exact_all_parts deep room words.Operator at = exact_operator_parts deep room at
 
-abbrev pub PartsFrom : ProcedureWord → Phrase (ProcedureKind × Block)
-PartsFrom which = AtToken (sees_word (begin_word which)) (λ at. Parts (OpenedPhrase which) at)
+abbrev pub PartsFrom : (deep room : ℕ) → ProcedureWord → Phrase (ProcedureKind × Block)
+PartsFrom deep room which = AtToken (sees_word (begin_word which)) (λ at. Parts deep room (OpenedPhrase which) at)
 
-pub given_parts : (which : ProcedureWord) → Given (sees_word (begin_word which)) (reading.procedure_parts which) (PartsFrom which) closes
+pub given_parts : (deep room : ℕ) → (which : ProcedureWord) → Given (sees_word (begin_word which)) (reading.procedure_parts (suc deep) room which) (PartsFrom deep room which) closes
 unfolding reading.procedure_parts
-given_parts which = given_token (sees_word (begin_word which)) (λ at. exact_all_parts which at)
+given_parts deep room which = given_token (sees_word (begin_word which)) (λ at. exact_all_parts deep room which at)
 
 -- which of them a procedure is
-pub parts_of : (ts : List Token) (p : ProcedureKind × Block) (rest : List Token) → grammar.procedure_parts ts p rest → (which : ProcedureWord) × PartsFrom which ts p rest
-parts_of ts p rest (inl t) = (words.Sub, t)
-parts_of ts p rest (inr (inl t)) = (words.Function, t)
-parts_of ts p rest (inr (inr (inl t))) = (words.Constructor, t)
-parts_of ts p rest (inr (inr (inr (inl t)))) = (words.Destructor, t)
-parts_of ts p rest (inr (inr (inr (inr t)))) = (words.Operator, t)
+pub parts_of : (deep room : ℕ) → (ts : List Token) (p : ProcedureKind × Block) (rest : List Token) → grammar.procedure_parts (suc deep) room ts p rest → (which : ProcedureWord) × PartsFrom deep room which ts p rest
+parts_of deep room ts p rest (inl t) = (words.Sub, t)
+parts_of deep room ts p rest (inr (inl t)) = (words.Function, t)
+parts_of deep room ts p rest (inr (inr (inl t))) = (words.Constructor, t)
+parts_of deep room ts p rest (inr (inr (inr (inl t)))) = (words.Destructor, t)
+parts_of deep room ts p rest (inr (inr (inr (inr t)))) = (words.Operator, t)
 
-pub of_parts : (which : ProcedureWord) (ts : List Token) (p : ProcedureKind × Block) (rest : List Token) → PartsFrom which ts p rest → grammar.procedure_parts ts p rest
-of_parts words.Sub ts p rest t = inl t
-of_parts words.Function ts p rest t = inr (inl t)
-of_parts words.Constructor ts p rest t = inr (inr (inl t))
-of_parts words.Destructor ts p rest t = inr (inr (inr (inl t)))
-of_parts words.Operator ts p rest t = inr (inr (inr (inr t)))
+pub of_parts : (deep room : ℕ) → (which : ProcedureWord) (ts : List Token) (p : ProcedureKind × Block) (rest : List Token) → PartsFrom deep room which ts p rest → grammar.procedure_parts (suc deep) room ts p rest
+of_parts deep room words.Sub ts p rest t = inl t
+of_parts deep room words.Function ts p rest t = inr (inl t)
+of_parts deep room words.Constructor ts p rest t = inr (inr (inl t))
+of_parts deep room words.Destructor ts p rest t = inr (inr (inr (inl t)))
+of_parts deep room words.Operator ts p rest t = inr (inr (inr (inr t)))

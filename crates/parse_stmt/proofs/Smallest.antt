@@ -1,5 +1,5 @@
 -- The smallest readers read exactly their phrases.
-use Rattle.std.proofs.Common.{◌≡◌, ◌≤◌, ℕ, Bool, true, false, if◌then◌else◌, List, [], ◌∷◌, ◌++◌, Option, Some, None, is_some, Ok, refl, sym, ap, ◌∙◌, arith, rules}
+use Rattle.std.proofs.Common.{◌≡◌, ◌≤◌, ℕ, suc, Bool, true, false, if◌then◌else◌, List, [], ◌∷◌, ◌++◌, Option, Some, None, is_some, Ok, refl, sym, ap, ◌∙◌, arith, rules}
 use denote.Enum.Bare.{same_true}
 use Rattle.fb_lexer.specs.declared.token.Token.{Token}
 use Rattle.fb_lexer.specs.declared.token.TokenKind.{TokenKind}
@@ -151,11 +151,11 @@ unfolding first
 behind_is [] is = (refl, refl, refl)
 behind_is (t ∷ ts) is = ends_by t ts (is_pointer t.kind) (suffix_of t.kind) (binary_of t.kind) refl refl refl is
 
-pub exact_whole : Exact whole grammar.expression ends_expression
+pub exact_whole : (deep : ℕ) → Exact (whole (suc deep)) (grammar.expression (suc deep)) ends_expression
 unfolding whole
-exact_whole = record {
-  sound = λ ts. bind (IsRead 200 1 ts) (grammar.expression ts) (expr 200 1 ts) _ (right 200 1 (omega arith) ts) (λ x rest s. (s.front, s.is, (x.1, s.within, s.are)));
-  finds = λ ts x rest t f. ap (λ (o : Outcome Measured). and_then o (λ m r. Ok (m.0, r))) (ap (expr 200 1) t.1 ∙ read_is 199 t.0 rest x t.2.0 t.2.2 t.2.1 (behind_is rest f));
+exact_whole deep = record {
+  sound = λ ts. bind (IsRead (suc deep) 1 ts) (grammar.expression (suc deep) ts) (expr (suc deep) 1 ts) _ (right (suc deep) 1 (omega arith) ts) (λ x rest s. (s.front, s.is, (x.1, s.within, s.are)));
+  finds = λ ts x rest t f. ap (λ (o : Outcome Measured). and_then o (λ m r. Ok (m.0, r))) (ap (expr (suc deep) 1) t.1 ∙ read_is deep t.0 rest x t.2.0 t.2.2 t.2.1 (behind_is rest f));
   within = λ ts x rest t. record { front = t.0; is = t.1 };
 }
 
@@ -181,19 +181,19 @@ place_ends (t ∷ ts) is = place_ends_by t ts (is_pointer t.kind) (suffix_of t.k
 pub no_operator : (rest : List Token) → operator_at 14 (first rest) ≡ None
 no_operator rest = none_comes 14 rest (λ p comes. let most = levels.always 13 rest (omega arith) p comes in omega arith)
 
-place_read : (front rest : List Token) (tree : Expr) (depth : ℕ) → Is (Expression 14 depth tree) front → depth ≤ 200 → ends_place (next_kind rest) ≡ true
-    → expr 200 14 (front ++ rest) ≡ Ok ((tree, depth), rest)
-place_read front rest tree depth is fits ends =
+pub place_read : (deep : ℕ) → (front rest : List Token) (tree : Expr) (depth : ℕ) → Is (Expression 14 depth tree) front → depth ≤ suc deep → ends_place (next_kind rest) ≡ true
+    → expr (suc deep) 14 (front ++ rest) ≡ Ok ((tree, depth), rest)
+place_read deep front rest tree depth is fits ends =
     let e = place_ends rest ends in
-    (complete is).whole 199 14 rest fits (omega arith) (omega arith) e.0 e.1 (levels.always 14 rest (omega arith)) ∙ climb_none 199 14 (tree, depth) rest (no_operator rest)
+    (complete is).whole deep 14 rest fits (omega arith) (omega arith) e.0 e.1 (levels.always 14 rest (omega arith)) ∙ climb_none deep 14 (tree, depth) rest (no_operator rest)
 
-pub exact_place : Exact reading.place grammar.place ends_place
+pub exact_place : (deep : ℕ) → Exact (reading.place (suc deep)) (grammar.place (suc deep)) ends_place
 unfolding reading.place
-exact_place = record {
-  sound = λ ts. by_test (λ (o : Outcome Expr). Done (grammar.place ts) o) (sees marks.At ts) _ _ (λ is. tt)
-      (λ not_at. by_test (λ (o : Outcome Expr). Done (grammar.place ts) o) (sees marks.Minus ts) _ _ (λ is. tt)
-      (λ not_minus. bind (IsRead 200 14 ts) (grammar.place ts) (expr 200 14 ts) _ (right 200 14 (omega arith) ts)
+exact_place deep = record {
+  sound = λ ts. by_test (λ (o : Outcome Expr). Done (grammar.place (suc deep) ts) o) (sees marks.At ts) _ _ (λ is. tt)
+      (λ not_at. by_test (λ (o : Outcome Expr). Done (grammar.place (suc deep) ts) o) (sees marks.Minus ts) _ _ (λ is. tt)
+      (λ not_minus. bind (IsRead (suc deep) 14 ts) (grammar.place (suc deep) ts) (expr (suc deep) 14 ts) _ (right (suc deep) 14 (omega arith) ts)
       (λ x rest s. (s.front, x.1, s.is, s.within, s.are, not_at, not_minus))));
-  finds = λ ts x rest t f. rw (t.5, t.6) (ap (λ (o : Outcome Measured). and_then o (λ m r. Ok (m.0, r))) (ap (expr 200 14) t.2 ∙ place_read t.0 rest x t.1 t.4 t.3 f));
+  finds = λ ts x rest t f. rw (t.5, t.6) (ap (λ (o : Outcome Measured). and_then o (λ m r. Ok (m.0, r))) (ap (expr (suc deep) 14) t.2 ∙ place_read deep t.0 rest x t.1 t.4 t.3 f));
   within = λ ts x rest t. record { front = t.0; is = t.2 };
 }

@@ -35,45 +35,45 @@ use Rattle.parse_stmt.proofs.Printing.{exact_print}
 use Rattle.parse_stmt.proofs.Bodies.{Inside, Opens}
 use Rattle.parse_stmt.proofs.Nested.{exact_if, exact_for, exact_while, exact_do, exact_select, exact_scope}
 
-module _ (inner : Spot → Reader Stmt) (room : ℕ) (Inner : Level → Line → Phrase Stmt) (inside : Inside inner room Inner) where
+module _ (deep : ℕ) (inner : Spot → Reader Stmt) (room : ℕ) (Inner : Level → Line → Phrase Stmt) (inside : Inside inner room Inner) where
   exact_led : (at : Span) (level : Level) (line : Line) (other : FaultKind) (lead : Lead)
-      → Exact (reading.led inner room at (record { level = level; line = line; other = other }) lead) (grammar.led Inner at level line lead) closes
-  exact_led at level line other leads.Dim = dim_exact at level
-  exact_led at level line other leads.Static = static_exact at
-  exact_led at level line other leads.Const = constant_exact at
-  exact_led at level line other leads.Function = exact_result at
-  exact_led at level line other leads.Print = exact_print at
-  exact_led at level line other leads.Line = exact_line_input at
-  exact_led at level line other leads.If = exact_if inner room Inner inside at level line
-  exact_led at level line other leads.For = exact_for inner room Inner inside at (level_within level) (line_within line)
-  exact_led at level line other leads.While = exact_while inner room Inner inside at (level_within level) (line_within line)
-  exact_led at level line other leads.Do = exact_do inner room Inner inside at (level_within level) (line_within line)
-  exact_led at level line other leads.Select = exact_select inner room Inner inside (level_within level) (line_within line) at
-  exact_led at level line other leads.Scope = exact_scope inner room Inner inside (level_within level) (line_within line) at
+      → Exact (reading.led (suc deep) inner room at (record { level = level; line = line; other = other }) lead) (grammar.led (suc deep) Inner at level line lead) closes
+  exact_led at level line other leads.Dim = dim_exact deep at level
+  exact_led at level line other leads.Static = static_exact deep at
+  exact_led at level line other leads.Const = constant_exact deep at
+  exact_led at level line other leads.Function = exact_result deep at
+  exact_led at level line other leads.Print = exact_print deep at
+  exact_led at level line other leads.Line = exact_line_input deep at
+  exact_led at level line other leads.If = exact_if deep inner room Inner inside at level line
+  exact_led at level line other leads.For = exact_for deep inner room Inner inside at (level_within level) (line_within line)
+  exact_led at level line other leads.While = exact_while deep inner room Inner inside at (level_within level) (line_within line)
+  exact_led at level line other leads.Do = exact_do deep inner room Inner inside at (level_within level) (line_within line)
+  exact_led at level line other leads.Select = exact_select deep inner room Inner inside (level_within level) (line_within line) at
+  exact_led at level line other leads.Scope = exact_scope deep inner room Inner inside (level_within level) (line_within line) at
   exact_led at level line other leads.Exit = exact_exit at
   exact_led at level line other leads.Continue = exact_continue at
-  exact_led at level line other leads.Return = exact_return at
-  exact_led at level line other leads.Delete = exact_delete at
-  exact_led at level line other leads.End = exact_end at
-  exact_led at level line other (leads.Call which) = exact_called at which
-  exact_led at level line other leads.Value = exact_valued at
+  exact_led at level line other leads.Return = exact_return deep at
+  exact_led at level line other leads.Delete = exact_delete deep at
+  exact_led at level line other leads.End = exact_end deep at
+  exact_led at level line other (leads.Call which) = exact_called deep at which
+  exact_led at level line other leads.Value = exact_valued deep at
   exact_led at level line other leads.Nothing = record { sound = λ ts. tt; finds = λ ts x rest t f. absurd t; within = λ ts x rest t. absurd t }
 
-  statement_sound : (level : Level) (line : Line) (other : FaultKind) (ts : List Token) → Done (grammar.statement Inner level line ts) (reading.statement inner room (record { level = level; line = line; other = other }) ts)
+  statement_sound : (level : Level) (line : Line) (other : FaultKind) (ts : List Token) → Done (grammar.statement (suc deep) Inner level line ts) (reading.statement (suc deep) inner room (record { level = level; line = line; other = other }) ts)
   unfolding reading.statement first
   statement_sound level line other [] = tt
   statement_sound level line other (t ∷ ts) =
-      map_done (grammar.led Inner t.at level line (lead_of level t.kind) (t ∷ ts)) (grammar.statement Inner level line (t ∷ ts)) _ ((exact_led t.at level line other (lead_of level t.kind)).sound (t ∷ ts))
+      map_done (grammar.led (suc deep) Inner t.at level line (lead_of level t.kind) (t ∷ ts)) (grammar.statement (suc deep) Inner level line (t ∷ ts)) _ ((exact_led t.at level line other (lead_of level t.kind)).sound (t ∷ ts))
       (λ x rest l. (t, ts, refl, l))
 
-  statement_finds : (level : Level) (line : Line) (other : FaultKind) (ts : List Token) (x : Stmt) (rest : List Token) → grammar.statement Inner level line ts x rest → closes (next_kind rest) ≡ true
-      → reading.statement inner room (record { level = level; line = line; other = other }) ts ≡ Ok (x, rest)
+  statement_finds : (level : Level) (line : Line) (other : FaultKind) (ts : List Token) (x : Stmt) (rest : List Token) → grammar.statement (suc deep) Inner level line ts x rest → closes (next_kind rest) ≡ true
+      → reading.statement (suc deep) inner room (record { level = level; line = line; other = other }) ts ≡ Ok (x, rest)
   unfolding reading.statement first
   statement_finds level line other ts x rest l f =
-      ap (λ (m : List Token). reading.statement_at inner room (record { level = level; line = line; other = other }) (first m) m) l.2
-      ∙ (exact_led l.0.at level line other (lead_of level l.0.kind)).finds (l.0 ∷ l.1) x rest (subst (λ (m : List Token). grammar.led Inner l.0.at level line (lead_of level l.0.kind) m x rest) l.2 l.3) f
+      ap (λ (m : List Token). reading.statement_at (suc deep) inner room (record { level = level; line = line; other = other }) (first m) m) l.2
+      ∙ (exact_led l.0.at level line other (lead_of level l.0.kind)).finds (l.0 ∷ l.1) x rest (subst (λ (m : List Token). grammar.led (suc deep) Inner l.0.at level line (lead_of level l.0.kind) m x rest) l.2 l.3) f
 
-  pub exact_statement : (level : Level) (line : Line) (other : FaultKind) → Exact (reading.statement inner room (record { level = level; line = line; other = other })) (grammar.statement Inner level line) closes
+  pub exact_statement : (level : Level) (line : Line) (other : FaultKind) → Exact (reading.statement (suc deep) inner room (record { level = level; line = line; other = other })) (grammar.statement (suc deep) Inner level line) closes
   exact_statement level line other = record {
     sound = statement_sound level line other;
     finds = statement_finds level line other;
@@ -82,26 +82,26 @@ module _ (inner : Spot → Reader Stmt) (room : ℕ) (Inner : Level → Line →
 
   -- ---- what a statement doesn't begin with
 
-  sep_apart : (at : Span) (level : Level) (line : Line) (kind : TokenKind) (ts : List Token) (x : Stmt) (rest : List Token) → grammar.led Inner at level line (lead_of level kind) ts x rest → (other : Line) → is_sep other kind ≡ false
+  sep_apart : (at : Span) (level : Level) (line : Line) (kind : TokenKind) (ts : List Token) (x : Stmt) (rest : List Token) → grammar.led (suc deep) Inner at level line (lead_of level kind) ts x rest → (other : Line) → is_sep other kind ≡ false
   sep_apart at level line kinds.Colon ts x rest l other = absurd l
   sep_apart at level line kinds.LineEnd ts x rest l other = absurd l
   sep_apart at level line kind ts x rest l other = refl
 
   word_by : (which : Word) (at : Span) (level : Level) (line : Line) (kind : TokenKind) (ts : List Token) (x : Stmt) (rest : List Token) → lead_of level (kinds.Word which) ≡ leads.Nothing
-      → grammar.led Inner at level line (lead_of level kind) ts x rest → (b : Bool) → is_word which kind ≡ b → b ≡ false
+      → grammar.led (suc deep) Inner at level line (lead_of level kind) ts x rest → (b : Bool) → is_word which kind ≡ b → b ≡ false
   word_by which at level line kind ts x rest none l true is =
-      absurd (subst (λ (lead : Lead). grammar.led Inner at level line lead ts x rest) (ap (lead_of level) (word_is which kind is) ∙ none) l)
+      absurd (subst (λ (lead : Lead). grammar.led (suc deep) Inner at level line lead ts x rest) (ap (lead_of level) (word_is which kind is) ∙ none) l)
   word_by which at level line kind ts x rest none l false is = refl
 
   pub word_apart : (which : Word) (level : Level) (line : Line) (ts : List Token) (x : Stmt) (rest : List Token) → lead_of level (kinds.Word which) ≡ leads.Nothing
-      → grammar.statement Inner level line ts x rest → sees_word which ts ≡ false
+      → grammar.statement (suc deep) Inner level line ts x rest → sees_word which ts ≡ false
   unfolding sees_word first
   word_apart which level line ts x rest none l =
       ap (sees_word which) l.2 ∙ word_by which l.0.at level line l.0.kind ts x rest none l.3 (is_word which l.0.kind) refl
 
   -- behind End no word comes that would end a block
   EndedBy : Span → List Token → Stmt → List Token → Type 0
-  EndedBy at ts x rest = Then any_token (λ u. Then (maybe expression) (λ y. gives (s.End at y))) ts x rest
+  EndedBy at ts x rest = Then any_token (λ u. Then (maybe (expression (suc deep))) (λ y. gives (s.End at y))) ts x rest
 
   value_no_word : (which : Word) → begins_kind (kinds.Word which) ≡ false → (ts : List Token) → sees_value ts ≡ true → (b : Bool) → sees_word which ts ≡ b → b ≡ false
   value_no_word which not ts v true is = let e : false ≡ true = sym not ∙ sym (ap value_kind (next_word which ts is)) ∙ sym (kind_of_value ts) ∙ v in cc
@@ -111,29 +111,29 @@ module _ (inner : Spot → Reader Stmt) (room : ℕ) (Inner : Level → Line →
   closed_no_word which not ts f true is = let e : false ≡ true = sym not ∙ sym (ap closes (next_word which ts is)) ∙ f in cc
   closed_no_word which not ts f false is = refl
 
-  behind_end : (which : Word) → begins_kind (kinds.Word which) ≡ false → closes (Some (kinds.Word which)) ≡ false → (ts : List Token) (y : Option Expr) (rest : List Token) → maybe expression ts y rest → closes (next_kind rest) ≡ true
+  behind_end : (which : Word) → begins_kind (kinds.Word which) ≡ false → closes (Some (kinds.Word which)) ≡ false → (ts : List Token) (y : Option Expr) (rest : List Token) → maybe (expression (suc deep)) ts y rest → closes (next_kind rest) ≡ true
       → sees_word which ts ≡ false
-  behind_end which a b ts y rest (inl t) f = value_no_word which a ts (value_seen ts t.given t.between t.front) (sees_word which ts) refl
+  behind_end which a b ts y rest (inl t) f = value_no_word which a ts (value_seen deep ts t.given t.between t.front) (sees_word which ts) refl
   behind_end which a b ts y rest (inr t) f = closed_no_word which b ts (ap (λ (r : List Token). closes (next_kind r)) (sym t.1) ∙ f) (sees_word which ts) refl
 
   end_by : (which : Word) → begins_kind (kinds.Word which) ≡ false → closes (Some (kinds.Word which)) ≡ false
-      → (at : Span) (level : Level) (line : Line) (kind : TokenKind) (ts : List Token) (x : Stmt) (rest : List Token) → grammar.led Inner at level line (lead_of level kind) ts x rest → closes (next_kind rest) ≡ true
+      → (at : Span) (level : Level) (line : Line) (kind : TokenKind) (ts : List Token) (x : Stmt) (rest : List Token) → grammar.led (suc deep) Inner at level line (lead_of level kind) ts x rest → closes (next_kind rest) ≡ true
       → (b : Bool) → is_word w.KwEnd kind ≡ b → (if b then sees_word which (next ts) else false) ≡ false
   end_by which a b at level line kind ts x rest l f true is =
-      let t : Then any_token (λ u. Then (maybe expression) (λ y. gives (s.End at y))) ts x rest =
-      subst (λ (lead : Lead). grammar.led Inner at level line lead ts x rest) (ap (lead_of level) (word_is w.KwEnd kind is)) l in
-      behind_end which a b (next ts) t.back.given t.back.between (subst (λ (m : List Token). maybe expression m t.back.given t.back.between) t.front t.back.front)
+      let t : Then any_token (λ u. Then (maybe (expression (suc deep))) (λ y. gives (s.End at y))) ts x rest =
+      subst (λ (lead : Lead). grammar.led (suc deep) Inner at level line lead ts x rest) (ap (lead_of level) (word_is w.KwEnd kind is)) l in
+      behind_end which a b (next ts) t.back.given t.back.between (subst (λ (m : List Token). maybe (expression (suc deep)) m t.back.given t.back.between) t.front t.back.front)
       (ap (λ (r : List Token). closes (next_kind r)) (sym t.back.back.1) ∙ f)
   end_by which a b at level line kind ts x rest l f false is = refl
 
   end_apart : (which : Word) → begins_kind (kinds.Word which) ≡ false → closes (Some (kinds.Word which)) ≡ false
-      → (level : Level) (line : Line) (ts : List Token) (x : Stmt) (rest : List Token) → grammar.statement Inner level line ts x rest → closes (next_kind rest) ≡ true → sees_end which ts ≡ false
+      → (level : Level) (line : Line) (ts : List Token) (x : Stmt) (rest : List Token) → grammar.statement (suc deep) Inner level line ts x rest → closes (next_kind rest) ≡ true → sees_end which ts ≡ false
   unfolding sees_end sees_word first
   end_apart which a b level line ts x rest l f =
       ap (λ (m : List Token). if sees_word w.KwEnd m then sees_word which (next ts) else false) l.2
       ∙ end_by which a b l.0.at level line l.0.kind ts x rest l.3 f (is_word w.KwEnd l.0.kind) refl
 
-  apart : (level : Level) (line : Line) (ts : List Token) (x : Stmt) (rest : List Token) → grammar.statement Inner level line ts x rest → closes (next_kind rest) ≡ true → (closer : Closer) → closed closer ts ≡ false
+  apart : (level : Level) (line : Line) (ts : List Token) (x : Stmt) (rest : List Token) → grammar.statement (suc deep) Inner level line ts x rest → closes (next_kind rest) ≡ true → (closer : Closer) → closed closer ts ≡ false
   apart level line ts x rest l f closers.Next = word_apart w.KwNext level line ts x rest refl l
   apart level line ts x rest l f closers.Wend = word_apart w.KwWend level line ts x rest refl l
   apart level line ts x rest l f closers.Loop = word_apart w.KwLoop level line ts x rest refl l
@@ -148,36 +148,36 @@ module _ (inner : Spot → Reader Stmt) (room : ℕ) (Inner : Level → Line →
   apart level line ts x rest l f closers.Destructor = end_apart w.KwDestructor refl refl level line ts x rest l f
   apart level line ts x rest l f closers.Operator = end_apart w.KwOperator refl refl level line ts x rest l f
 
-  pub statement_opens : (level : Level) (line : Line) (ts : List Token) (x : Stmt) (rest : List Token) → grammar.statement Inner level line ts x rest → closes (next_kind rest) ≡ true → Opens ts
+  pub statement_opens : (level : Level) (line : Line) (ts : List Token) (x : Stmt) (rest : List Token) → grammar.statement (suc deep) Inner level line ts x rest → closes (next_kind rest) ≡ true → Opens ts
   unfolding sees_sep first
   statement_opens level line ts x rest l f = record {
     no_sep = λ other. ap (sees_sep other) l.2 ∙ sep_apart l.0.at level line l.0.kind ts x rest l.3 other;
     not_closed = apart level line ts x rest l f;
   }
 
-suc_not : (n : ℕ) → (suc n == 0) ≡ false
+pub suc_not : (n : ℕ) → (suc n == 0) ≡ false
 suc_not n = grind (arith, nat_tests)
 
 -- statements of each depth are read exactly
-pub inside_of : (room : ℕ) → Inside (reading.stmt room) room (grammar.stmt room)
+pub inside_of : (deep room : ℕ) → Inside (reading.stmt (suc deep) room) room (grammar.stmt (suc deep) room)
 unfolding reading.stmt reading.no_room
-inside_of zero = record {
+inside_of deep zero = record {
   exact = λ level line other. record { sound = λ ts. tt; finds = λ ts x rest t f. absurd t; within = λ ts x rest t. absurd t };
   opens = λ level line ts x rest t f. absurd t;
   deep = λ level line ts x rest t. absurd t;
 }
-inside_of (suc room) = record {
-  exact = λ level line other. exact_statement (reading.stmt room) room (grammar.stmt room) (inside_of room) level line other;
-  opens = λ level line ts x rest t f. statement_opens (reading.stmt room) room (grammar.stmt room) (inside_of room) level line ts x rest t f;
+inside_of deep (suc room) = record {
+  exact = λ level line other. exact_statement deep (reading.stmt (suc deep) room) room (grammar.stmt (suc deep) room) (inside_of deep room) level line other;
+  opens = λ level line ts x rest t f. statement_opens deep (reading.stmt (suc deep) room) room (grammar.stmt (suc deep) room) (inside_of deep room) level line ts x rest t f;
   deep = λ level line ts x rest t. suc_not room;
 }
 
 read_by : {A : Type 0} (P : A → List Token → Type 0) (o : Outcome A) (a : A) (rest : List Token) → Done P o → o ≡ Ok (a, rest) → P a rest
 read_by P o a rest d is = subst (λ (x : Outcome _). Done P x) is d
 
-pub statements_read : (room : ℕ) (spot : Spot) (ts rest : List Token) (x : Stmt) → reading.stmt room spot ts ≡ Ok (x, rest) → grammar.stmt room spot.level spot.line ts x rest
-statements_read room spot ts rest x is =
-    read_by (grammar.stmt room spot.level spot.line ts) (reading.stmt room spot ts) x rest (((inside_of room).exact spot.level spot.line spot.other).sound ts) is
+pub statements_read : (deep : ℕ) → (room : ℕ) (spot : Spot) (ts rest : List Token) (x : Stmt) → reading.stmt (suc deep) room spot ts ≡ Ok (x, rest) → grammar.stmt (suc deep) room spot.level spot.line ts x rest
+statements_read deep room spot ts rest x is =
+    read_by (grammar.stmt (suc deep) room spot.level spot.line ts) (reading.stmt (suc deep) room spot ts) x rest (((inside_of deep room).exact spot.level spot.line spot.other).sound ts) is
 
-pub statements_found : (room : ℕ) (spot : Spot) (ts rest : List Token) (x : Stmt) → grammar.stmt room spot.level spot.line ts x rest → closes (next_kind rest) ≡ true → reading.stmt room spot ts ≡ Ok (x, rest)
-statements_found room spot ts rest x t f = ((inside_of room).exact spot.level spot.line spot.other).finds ts x rest t f
+pub statements_found : (deep : ℕ) → (room : ℕ) (spot : Spot) (ts rest : List Token) (x : Stmt) → grammar.stmt (suc deep) room spot.level spot.line ts x rest → closes (next_kind rest) ≡ true → reading.stmt (suc deep) room spot ts ≡ Ok (x, rest)
+statements_found deep room spot ts rest x t f = ((inside_of deep room).exact spot.level spot.line spot.other).finds ts x rest t f

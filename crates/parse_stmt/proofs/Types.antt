@@ -53,16 +53,16 @@ exact_given {A = A} {test = test} {p = p} {q = q} {P = P} {Q = Q} {F = F} one ot
   within = given_within test p q P Q F one other;
 }
 
-field_exact : Exact reading.field grammar.field closes
+field_exact : (deep : ℕ) → Exact (reading.field (suc deep)) (grammar.field (suc deep)) closes
 unfolding reading.field
-field_exact = exact_then exact_name (λ n. exact_then (any_bounds_exact as_only refl) (λ b. exact_then (exact_word w.KwAs) (λ u. exact_weaker (exact_made (λ t. member.Field n b t) exact_type) closes_pointer) (λ u ts a rest t f. refl))
+field_exact deep = exact_then exact_name (λ n. exact_then (any_bounds_exact deep as_only refl) (λ b. exact_then (exact_word w.KwAs) (λ u. exact_weaker (exact_made (λ t. member.Field n b t) exact_type) closes_pointer) (λ u ts a rest t f. refl))
     (λ b. starts_word w.KwAs _ closes as_only refl)) (λ n ts a rest t f. refl)
 
-field_or : Exact (λ ts. if sees_name ts then reading.field ts else refuse ts) grammar.field closes
-field_or = record {
-  sound = λ ts. by_test (λ (o : Outcome Member). Done (grammar.field ts) o) (sees_name ts) _ _ (λ is. field_exact.sound ts) (λ is. tt);
-  finds = λ ts a rest t f. rw (name_seen ts t.given t.between t.front) (field_exact.finds ts a rest t f);
-  within = field_exact.within;
+field_or : (deep : ℕ) → Exact (λ ts. if sees_name ts then reading.field (suc deep) ts else refuse ts) (grammar.field (suc deep)) closes
+field_or deep = record {
+  sound = λ ts. by_test (λ (o : Outcome Member). Done (grammar.field (suc deep) ts) o) (sees_name ts) _ _ (λ is. (field_exact deep).sound ts) (λ is. tt);
+  finds = λ ts a rest t f. rw (name_seen ts t.given t.between t.front) ((field_exact deep).finds ts a rest t f);
+  within = (field_exact deep).within;
 }
 
 -- ---- Declares of a Type
@@ -124,94 +124,94 @@ declared_exact at = exact_given (constructor_given at) (exact_given (destructor_
 
 -- ---- members
 
-member_exact : Exact one_member grammar.one_member closes
+pub member_exact : (deep : ℕ) → Exact (one_member (suc deep)) (grammar.one_member (suc deep)) closes
 unfolding one_member
-member_exact = as_exact (ended_behind (sees_word w.KwDeclare) (λ at. as_ended (declared_exact at)) (as_ended field_or) (λ ts a rest t d. name_no_word w.KwDeclare ts t.given t.between t.front))
+member_exact deep = as_exact (ended_behind (sees_word w.KwDeclare) (λ at. as_ended (declared_exact at)) (as_ended (field_or deep)) (λ ts a rest t d. name_no_word w.KwDeclare ts t.given t.between t.front))
 
-member_no_end : (ts : List Token) (x : Member) (rest : List Token) → grammar.one_member ts x rest → sees_word w.KwEnd ts ≡ false
-member_no_end ts x rest (inl t) = no_word w.KwEnd only_declare ts refl (ap only_declare (next_word w.KwDeclare ts (token_then (sees_word w.KwDeclare) (λ at. grammar.declared_member at) ts x rest t).is)) (sees_word w.KwEnd ts) refl
-member_no_end ts x rest (inr t) = name_no_word w.KwEnd ts t.given t.between t.front
+member_no_end : (deep : ℕ) → (ts : List Token) (x : Member) (rest : List Token) → grammar.one_member (suc deep) ts x rest → sees_word w.KwEnd ts ≡ false
+member_no_end deep ts x rest (inl t) = no_word w.KwEnd only_declare ts refl (ap only_declare (next_word w.KwDeclare ts (token_then (sees_word w.KwDeclare) (λ at. grammar.declared_member at) ts x rest t).is)) (sees_word w.KwEnd ts) refl
+member_no_end deep ts x rest (inr t) = name_no_word w.KwEnd ts t.given t.between t.front
 
-abbrev turns_from : ℕ → List Member × Bool → Reader (List Member)
-turns_from n q = if q.1 then repeat member_turn n q.0 else pure q.0
+abbrev turns_from : (deep : ℕ) → ℕ → List Member × Bool → Reader (List Member)
+turns_from deep n q = if q.1 then repeat (member_turn (suc deep)) n q.0 else pure q.0
 
-record MembersRead (found : List Member) (ts : List Token) (all : List Member) (rest : List Token) : Type 0 where
-  behind : List Member
-  is : all ≡ found ++ behind
-  are : Members ts behind rest
-  field : has_field all ≡ true
-  ends : sees_word w.KwEnd rest ≡ true
+pub record MembersRead (deep : ℕ) (found : List Member) (ts : List Token) (all : List Member) (rest : List Token) : Type 0 where
+  pub behind : List Member
+  pub is : all ≡ found ++ behind
+  pub are : Members (suc deep) ts behind rest
+  pub field : has_field all ≡ true
+  pub ends : sees_word w.KwEnd rest ≡ true
 
-record MemberRead (found : List Member) (ts : List Token) (q : List Member × Bool) (rest : List Token) : Type 0 where
+record MemberRead (deep : ℕ) (found : List Member) (ts : List Token) (q : List Member × Bool) (rest : List Token) : Type 0 where
   x : Member
   between : List Token
-  stands : grammar.one_member ts x between
+  stands : grammar.one_member (suc deep) ts x between
   end : sees_sep lines.Free between ≡ true
   behind : rest ≡ next between
   is : q ≡ (found ++ x ∷ [], true)
 
-one_sound : (found : List Member) (ts : List Token) → Done (MemberRead found ts) (and_then (one_member ts) (ended_member found))
+one_sound : (deep : ℕ) → (found : List Member) (ts : List Token) → Done (MemberRead deep found ts) (and_then (one_member (suc deep) ts) (ended_member found))
 unfolding ended_member steps.sep
-one_sound found ts = bind (grammar.one_member ts) (MemberRead found ts) (one_member ts) (ended_member found) (member_exact.sound ts)
-    (λ x between t. by_test (λ (o : Outcome (Unit {0})). Done (MemberRead found ts) (and_then o (λ u. pure (found ++ x ∷ [], true)))) (sees_sep lines.Free between) _ _
+one_sound deep found ts = bind (grammar.one_member (suc deep) ts) (MemberRead deep found ts) (one_member (suc deep) ts) (ended_member found) ((member_exact deep).sound ts)
+    (λ x between t. by_test (λ (o : Outcome (Unit {0})). Done (MemberRead deep found ts) (and_then o (λ u. pure (found ++ x ∷ [], true)))) (sees_sep lines.Free between) _ _
     (λ end. record { x = x; between = between; stands = t; end = end; behind = refl; is = refl }) (λ none_there. tt))
 
-members_sound : (n : ℕ) (found : List Member) (ts : List Token) → Done (MembersRead found ts) (repeat member_turn n found ts)
+pub members_sound : (deep : ℕ) → (n : ℕ) (found : List Member) (ts : List Token) → Done (MembersRead deep found ts) (repeat (member_turn (suc deep)) n found ts)
 unfolding repeat member_turn
-members_sound zero found ts = tt
-members_sound (suc n) found ts =
-    by_test (λ (o : Outcome (List Member × Bool)). Done (MembersRead found ts) (and_then o (turns_from n))) (sees_word w.KwEnd ts) _ _
-    (λ is. by_test (λ (o : Outcome (List Member × Bool)). Done (MembersRead found ts) (and_then o (turns_from n))) (has_field found) _ _
+members_sound deep zero found ts = tt
+members_sound deep (suc n) found ts =
+    by_test (λ (o : Outcome (List Member × Bool)). Done (MembersRead deep found ts) (and_then o (turns_from deep n))) (sees_word w.KwEnd ts) _ _
+    (λ is. by_test (λ (o : Outcome (List Member × Bool)). Done (MembersRead deep found ts) (and_then o (turns_from deep n))) (has_field found) _ _
     (λ field. record { behind = []; is = sym (append-nil found); are = none ts; field = field; ends = is }) (λ no_field. tt))
-    (λ open_. bind (MemberRead found ts) (MembersRead found ts) (and_then (one_member ts) (ended_member found)) (turns_from n) (one_sound found ts)
-    (λ q rest r. rw (r.is, r.behind) (map_done (MembersRead (found ++ r.x ∷ []) (next r.between)) (MembersRead found ts) _ (members_sound n (found ++ r.x ∷ []) (next r.between))
+    (λ open_. bind (MemberRead deep found ts) (MembersRead deep found ts) (and_then (one_member (suc deep) ts) (ended_member found)) (turns_from deep n) (one_sound deep found ts)
+    (λ q rest r. rw (r.is, r.behind) (map_done (MembersRead deep (found ++ r.x ∷ []) (next r.between)) (MembersRead deep found ts) _ (members_sound deep n (found ++ r.x ∷ []) (next r.between))
     (λ all left b. record { behind = r.x ∷ b.behind; is = b.is ∙ append_assoc found (r.x ∷ []) b.behind; are = some ts r.between left r.x b.behind r.stands r.end b.are; field = b.field; ends = b.ends }))))
 
-members_finds : (n : ℕ) (found : List Member) (ts : List Token) (all : List Member) (rest : List Token) → Members ts all rest → sees_word w.KwEnd rest ≡ true → has_field (found ++ all) ≡ true → length ts < n
-    → repeat member_turn n found ts ≡ Ok (found ++ all, rest)
+members_finds : (deep : ℕ) → (n : ℕ) (found : List Member) (ts : List Token) (all : List Member) (rest : List Token) → Members (suc deep) ts all rest → sees_word w.KwEnd rest ≡ true → has_field (found ++ all) ≡ true → length ts < n
+    → repeat (member_turn (suc deep)) n found ts ≡ Ok (found ++ all, rest)
 unfolding repeat member_turn ended_member steps.sep
-members_finds zero found ts all rest m ends field few = absurd (omega arith)
-members_finds (suc n) found ts all rest (none a) ends field few =
+members_finds deep zero found ts all rest m ends field few = absurd (omega arith)
+members_finds deep (suc n) found ts all rest (none a) ends field few =
     let f : has_field found ≡ true = ap has_field (sym (append-nil found)) ∙ field in
     rw (ends, f, append-nil found) refl
-members_finds (suc n) found ts all rest (some a between b x more t is m) ends field few =
+members_finds deep (suc n) found ts all rest (some a between b x more t is m) ends field few =
     let f = sep_closes lines.Free between is in
-    let within = no_longer (member_exact.within ts x between t) in
+    let within = no_longer ((member_exact deep).within ts x between t) in
     let less = sep_less lines.Free between is in
-    rw (member_no_end ts x between t, member_exact.finds ts x between t f, is)
-    (members_finds n (found ++ x ∷ []) (next between) more rest m ends (ap has_field (append_assoc found (x ∷ []) more) ∙ field) (omega arith) ∙ ap (λ (xs : List Member). Ok (xs, rest)) (append_assoc found (x ∷ []) more))
+    rw (member_no_end deep ts x between t, (member_exact deep).finds ts x between t f, is)
+    (members_finds deep n (found ++ x ∷ []) (next between) more rest m ends (ap has_field (append_assoc found (x ∷ []) more) ∙ field) (omega arith) ∙ ap (λ (xs : List Member). Ok (xs, rest)) (append_assoc found (x ∷ []) more))
 
-members_within : (ts : List Token) (all : List Member) (rest : List Token) → Members ts all rest → Suffixes rest ts
-members_within ts all rest (none a) = same_end rest
-members_within ts all rest (some a between b x more t is m) = end_of_end (members_within (next between) more rest m) (end_of_end (leave_next between) (member_exact.within ts x between t))
+members_within : (deep : ℕ) → (ts : List Token) (all : List Member) (rest : List Token) → Members (suc deep) ts all rest → Suffixes rest ts
+members_within deep ts all rest (none a) = same_end rest
+members_within deep ts all rest (some a between b x more t is m) = end_of_end (members_within deep (next between) more rest m) (end_of_end (leave_next between) ((member_exact deep).within ts x between t))
 
 -- ---- a Type
 
-abbrev Rest : Span → Name → Phrase Item
-Rest at n = Then Members (λ all. Then (grammar.with_field all) (λ u. Then (word w.KwEnd) (λ v. Then (word w.KwType) (λ x. gives (item.Type at n all)))))
+abbrev Rest : (deep : ℕ) → Span → Name → Phrase Item
+Rest deep at n = Then (Members (suc deep)) (λ all. Then (grammar.with_field all) (λ u. Then (word w.KwEnd) (λ v. Then (word w.KwType) (λ x. gives (item.Type at n all)))))
 
-abbrev rest_read : Span → Name → Reader Item
-rest_read at n = λ ts. and_then (members ts) (λ all. λ us. and_then (expect_word w.KwEnd us) (λ v. λ vs. and_then (expect_word w.KwType vs) (λ x. pure (item.Type at n all))))
+abbrev rest_read : (deep : ℕ) → Span → Name → Reader Item
+rest_read deep at n = λ ts. and_then (members (suc deep) ts) (λ all. λ us. and_then (expect_word w.KwEnd us) (λ v. λ vs. and_then (expect_word w.KwType vs) (λ x. pure (item.Type at n all))))
 
 closing_exact : (at : Span) (n : Name) (all : List Member) → Exact (λ us. and_then (expect_word w.KwEnd us) (λ v. λ vs. and_then (expect_word w.KwType vs) (λ x. pure (item.Type at n all)))) (Then (word w.KwEnd) (λ v. Then (word w.KwType) (λ x. gives (item.Type at n all)))) always
 closing_exact at n all = exact_then (exact_word w.KwEnd) (λ v. exact_then (exact_word w.KwType) (λ x. exact_gives (item.Type at n all) always) (λ x ts a rest t f. refl)) (λ v ts a rest t f. refl)
 
-rest_exact : (at : Span) (n : Name) → Exact (rest_read at n) (Rest at n) always
+rest_exact : (deep : ℕ) → (at : Span) (n : Name) → Exact (rest_read deep at n) (Rest deep at n) always
 unfolding members
-rest_exact at n = record {
-  sound = λ ts. bind (MembersRead [] ts) (Rest at n ts) (repeat member_turn (length ts + 1) [] ts) _ (members_sound (length ts + 1) [] ts)
-      (λ all between r. map_done (Then (word w.KwEnd) (λ v. Then (word w.KwType) (λ x. gives (item.Type at n all))) between) (Rest at n ts) _ ((closing_exact at n all).sound between)
-      (λ y rest t. record { given = all; between = between; front = subst (λ (xs : List Member). Members ts xs between) (sym r.is) r.are; back = record { given = tt; between = between; front = (r.field, refl); back = t } }));
+rest_exact deep at n = record {
+  sound = λ ts. bind (MembersRead deep [] ts) (Rest deep at n ts) (repeat (member_turn (suc deep)) (length ts + 1) [] ts) _ (members_sound deep (length ts + 1) [] ts)
+      (λ all between r. map_done (Then (word w.KwEnd) (λ v. Then (word w.KwType) (λ x. gives (item.Type at n all))) between) (Rest deep at n ts) _ ((closing_exact at n all).sound between)
+      (λ y rest t. record { given = all; between = between; front = subst (λ (xs : List Member). Members (suc deep) ts xs between) (sym r.is) r.are; back = record { given = tt; between = between; front = (r.field, refl); back = t } }));
   finds = λ ts y rest t f.
       let same = t.back.front.1 in
       let close : Then (word w.KwEnd) (λ v. Then (word w.KwType) (λ x. gives (item.Type at n t.given))) t.between y rest =
       subst (λ (m : List Token). Then (word w.KwEnd) (λ v. Then (word w.KwType) (λ x. gives (item.Type at n t.given))) m y rest) same t.back.back in
       ap (λ (o : Outcome (List Member)). and_then o (λ all. λ us. and_then (expect_word w.KwEnd us) (λ v. λ vs. and_then (expect_word w.KwType vs) (λ x. pure (item.Type at n all)))))
-      (members_finds (length ts + 1) [] ts t.given t.between t.front close.front.0 t.back.front.0 (omega arith))
+      (members_finds deep (length ts + 1) [] ts t.given t.between t.front close.front.0 t.back.front.0 (omega arith))
       ∙ (closing_exact at n t.given).finds t.between y rest close refl;
-  within = λ ts y rest t. end_of_end ((closing_exact at n t.given).within t.back.between y rest t.back.back) (rw (t.back.front.1) (members_within ts t.given t.between t.front));
+  within = λ ts y rest t. end_of_end ((closing_exact at n t.given).within t.back.between y rest t.back.back) (rw (t.back.front.1) (members_within deep ts t.given t.between t.front));
 }
 
-pub given_type : Given (sees_word w.KwType) reading.type_def grammar.type_def always
+pub given_type : (deep : ℕ) → Given (sees_word w.KwType) (reading.type_def (suc deep)) (grammar.type_def (suc deep)) always
 unfolding reading.type_def
-given_type = given_token (sees_word w.KwType) (λ at. exact_then exact_name (λ n. exact_then (exact_sep lines.Free) (λ u. rest_exact at n) (λ u ts a rest t f. refl)) (λ n ts a rest t f. refl))
+given_type deep = given_token (sees_word w.KwType) (λ at. exact_then exact_name (λ n. exact_then (exact_sep lines.Free) (λ u. rest_exact deep at n) (λ u ts a rest t f. refl)) (λ n ts a rest t f. refl))

@@ -1,5 +1,5 @@
 -- What an expression begins with.
-use Rattle.std.proofs.Common.{◌≡◌, ◌≤◌, ℕ, nat_le, Bool, true, false, List, [], ◌∷◌, ◌++◌, Option, Some, None, Ok, refl, sym, ap, ◌∙◌, arith}
+use Rattle.std.proofs.Common.{◌≡◌, ◌≤◌, suc, ℕ, nat_le, Bool, true, false, List, [], ◌∷◌, ◌++◌, Option, Some, None, Ok, refl, sym, ap, ◌∙◌, arith}
 use Rattle.std.proofs.lemmas.Bool.Decides.{nat_tests}
 use Rattle.fb_base.specs.declared.fault.Span.{Span}
 use Rattle.fb_base.specs.declared.fault.FaultKind.{FaultKind}
@@ -78,9 +78,9 @@ pub sees_begun : (level : ℕ) (front rest ts : List Token) → ts ≡ front ++ 
 unfolding first
 sees_begun level front rest ts is b = ap (λ (xs : List Token). begins level (first xs)) (is ∙ ap (λ (xs : List Token). xs ++ rest) b.is) ∙ b.may
 
-pub value_seen : (ts : List Token) (x : Expr) (rest : List Token) → expression ts x rest → sees_value ts ≡ true
+pub value_seen : (deep : ℕ) → (ts : List Token) (x : Expr) (rest : List Token) → expression (suc deep) ts x rest → sees_value ts ≡ true
 unfolding sees_value
-value_seen ts x rest t = sees_begun 1 t.0 rest ts t.1 (begun t.2.2)
+value_seen deep ts x rest t = sees_begun 1 t.0 rest ts t.1 (begun t.2.2)
 
 -- ---- what a kind of token begins
 
@@ -104,8 +104,8 @@ unfolding sees_value first
 kind_of_value [] = refl
 kind_of_value (t ∷ ts) = same_begins t (prefix_of t.kind)
 
-pub starts_value : (F : Follow) → Under value_kind F → (G : Follow) → Starts expression G F
-starts_value F under G ts x rest t f = under (next_kind ts) (sym (kind_of_value ts) ∙ value_seen ts x rest t)
+pub starts_value : (deep : ℕ) → (F : Follow) → Under value_kind F → (G : Follow) → Starts (expression (suc deep)) G F
+starts_value deep F under G ts x rest t f = under (next_kind ts) (sym (kind_of_value ts) ∙ value_seen deep ts x rest t)
 
 no_value_by : (kind : TokenKind) → closes (Some kind) ≡ true → begins_kind kind ≡ false
 no_value_by kinds.Colon is = refl
@@ -152,15 +152,15 @@ exact_passed {A = A} a = record {
   within = λ ts b rest t. rw t.1 (same_end ts);
 }
 
-made_seen : (ts : List Token) (a : Option Expr) (rest : List Token) → Then expression (λ x. gives (Some x)) ts a rest → closes (next_kind rest) ≡ true → sees_value ts ≡ true
-made_seen ts a rest t f = value_seen ts t.given t.between t.front
+made_seen : (deep : ℕ) → (ts : List Token) (a : Option Expr) (rest : List Token) → Then (expression (suc deep)) (λ x. gives (Some x)) ts a rest → closes (next_kind rest) ≡ true → sees_value ts ≡ true
+made_seen deep ts a rest t f = value_seen deep ts t.given t.between t.front
 
 pub none_seen : {A : Type 0} (b : A) (ts : List Token) (a : A) (rest : List Token) → gives b ts a rest → closes (next_kind rest) ≡ true → sees_value ts ≡ false
 none_seen b ts a rest t f = closed_no_value ts (ap (λ (r : List Token). closes (next_kind r)) (sym t.1) ∙ f)
 
-pub exact_any_value : Exact any_value (maybe expression) closes
+pub exact_any_value : (deep : ℕ) → Exact (any_value (suc deep)) (maybe (expression (suc deep))) closes
 unfolding any_value
-exact_any_value = exact_choose sees_value (exact_weaker (exact_made (λ (x : Expr). Some x) exact_whole) closes_expression) (exact_passed None) made_seen (none_seen None)
+exact_any_value deep = exact_choose sees_value (exact_weaker (exact_made (λ (x : Expr). Some x) (exact_whole deep)) closes_expression) (exact_passed None) (made_seen deep) (none_seen None)
 
 -- ---- what doesn't begin an expression
 

@@ -80,54 +80,54 @@ abbrev pub until_at : Option Token → Option Until
 until_at None = None
 until_at (Some t) = until_of t.kind
 
-abbrev pub test_by : Span → Option Until → Reader (Option Test)
-test_by at None = pure None
-test_by at (Some word) = do
+abbrev pub test_by : ℕ → Span → Option Until → Reader (Option Test)
+test_by most at None = pure None
+test_by most at (Some word) = do
   take_token
-  condition ← whole
+  condition ← whole most
   pure (Some (record { at = at; word = word; condition = condition }))
 
 -- the test of a Do, if it comes next
-unfoldable pub any_test : Reader (Option Test)
-any_test = λ ts. test_by (place_at ts) (until_at (first ts)) ts
+unfoldable pub any_test : ℕ → Reader (Option Test)
+any_test most = λ ts. test_by most (place_at ts) (until_at (first ts)) ts
 
 -- a Do has one test at most
-unfoldable pub last_test : Bool → Reader (Option Test)
-last_test tested = if tested then pure None else any_test
+unfoldable pub last_test : ℕ → Bool → Reader (Option Test)
+last_test most tested = if tested then pure None else any_test most
 
 abbrev pub comparison_at : Option Token → Option Comparison
 comparison_at None = None
 comparison_at (Some t) = comparison_of t.kind
 
-abbrev pub is_by : Span → Option Comparison → Reader Case
-is_by at None = stop Expected
-is_by at (Some which) = do
+abbrev pub is_by : ℕ → Span → Option Comparison → Reader Case
+is_by most at None = stop Expected
+is_by most at (Some which) = do
   take_token
-  pure (case.Is at which (← whole))
+  pure (case.Is at which (← whole most))
 
 -- behind Is
-unfoldable pub is_case : Span → Reader Case
-is_case at = λ ts. is_by at (comparison_at (first ts)) ts
+unfoldable pub is_case : ℕ → Span → Reader Case
+is_case most at = λ ts. is_by most at (comparison_at (first ts)) ts
 
-unfoldable pub case_from : Expr → Reader Case
-case_from low = λ ts. if sees_word w.KwTo ts then (do high ← whole; pure (case.Range low high)) (next ts) else Ok (case.Value low, ts)
+unfoldable pub case_from : ℕ → Expr → Reader Case
+case_from most low = λ ts. if sees_word w.KwTo ts then (do high ← whole most; pure (case.Range low high)) (next ts) else Ok (case.Value low, ts)
 
-unfoldable pub one_case : Reader Case
-one_case = λ ts. if sees_word w.KwIs ts then is_case (place_at ts) (next ts) else (whole >>= case_from) ts
+unfoldable pub one_case : ℕ → Reader Case
+one_case most = λ ts. if sees_word w.KwIs ts then is_case most (place_at ts) (next ts) else (whole most >>= case_from most) ts
 
-unfoldable pub case_turn : Turn (List Case)
-case_turn found = one_case >>= comma_behind found
+unfoldable pub case_turn : ℕ → Turn (List Case)
+case_turn most found = one_case most >>= comma_behind found
 
-unfoldable pub case_list : Reader (List Case)
-case_list = all_of case_turn []
+unfoldable pub case_list : ℕ → Reader (List Case)
+case_list most = all_of (case_turn most) []
 
 -- behind Case
-unfoldable pub cases_ : Reader Cases
-cases_ = λ ts. if sees_word w.KwElse ts then Ok (cases.Else, next ts) else (do all ← case_list; pure (cases.List all)) ts
+unfoldable pub cases_ : ℕ → Reader Cases
+cases_ most = λ ts. if sees_word w.KwElse ts then Ok (cases.Else, next ts) else (do all ← case_list most; pure (cases.List all)) ts
 
 -- ---- statements with statements inside, by the reader of those, which may be so many levels deep
 
-module _ (inner : Spot → Reader Stmt) (room : ℕ) where
+module _ (most : ℕ) (inner : Spot → Reader Stmt) (room : ℕ) where
   -- End comes next, which can't begin a statement, since none can be deep enough
   unfoldable pub end_is_deep : Closer → List Token → Bool
   end_is_deep closer ts = if room == 0 then (if ends_with_end closer then sees_word w.KwEnd ts else false) else false
@@ -197,7 +197,7 @@ module _ (inner : Spot → Reader Stmt) (room : ℕ) where
   -- behind ElseIf
   unfoldable pub else_if : Span → Level → Line → Reader Branch
   else_if at level line = do
-    condition ← whole
+    condition ← whole most
     expect_word w.KwThen
     sep line
     branch at condition level line
@@ -239,7 +239,7 @@ module _ (inner : Spot → Reader Stmt) (room : ℕ) where
   unfoldable pub if_ : Span → Level → Line → Reader Stmt
   if_ at level line = do
     take_token
-    condition ← whole
+    condition ← whole most
     expect_word w.KwThen
     if_behind at condition level line
 
@@ -248,10 +248,10 @@ module _ (inner : Spot → Reader Stmt) (room : ℕ) where
   -- start, end and step
   unfoldable pub range : Reader (Expr × Expr × Option Expr)
   range = do
-    start ← whole
+    start ← whole most
     expect_word w.KwTo
-    end ← whole
-    step ← value_behind w.KwStep
+    end ← whole most
+    step ← value_behind most w.KwStep
     pure (start, end, step)
 
   unfoldable pub for_head : Reader (Name × Option TypeName × (Expr × Expr × Option Expr))
@@ -281,7 +281,7 @@ module _ (inner : Spot → Reader Stmt) (room : ℕ) where
   unfoldable pub while_ : Span → Level → Line → Reader Stmt
   while_ at level line = do
     take_token
-    condition ← whole
+    condition ← whole most
     sep line
     b ← body level line closers.Wend
     take_token
@@ -290,18 +290,18 @@ module _ (inner : Spot → Reader Stmt) (room : ℕ) where
   unfoldable pub do_ : Span → Level → Line → Reader Stmt
   do_ at level line = do
     take_token
-    test ← any_test
+    test ← any_test most
     sep line
     b ← body level line closers.Loop
     take_token
-    pure (s.Do at test b (← last_test (is_some test)))
+    pure (s.Do at test b (← last_test most (is_some test)))
 
   -- ---- Select and Scope
 
   -- behind Case
   unfoldable pub case_branch : Span → Level → Line → Reader CaseBranch
   case_branch at level line = do
-    all ← cases_
+    all ← cases_ most
     sep line
     b ← body level line closers.Cases
     pure (roll-CaseBranch (record { at = at; cases = all; body = b }))
@@ -318,7 +318,7 @@ module _ (inner : Spot → Reader Stmt) (room : ℕ) where
   select at level line = do
     take_token
     expect_word w.KwCase
-    value ← whole
+    value ← whole most
     sep line
     all ← case_branches level line
     pure (s.Select at value all (← end_of w.KwSelect))
@@ -334,12 +334,12 @@ module _ (inner : Spot → Reader Stmt) (room : ℕ) where
   -- ---- statements
 
   abbrev pub led : Span → Spot → Lead → Reader Stmt
-  led at spot leads.Dim = dim at spot.level
-  led at spot leads.Static = static_ at
-  led at spot leads.Const = constant at
-  led at spot leads.Function = result_ at
-  led at spot leads.Print = print at
-  led at spot leads.Line = line_input at
+  led at spot leads.Dim = dim most at spot.level
+  led at spot leads.Static = static_ most at
+  led at spot leads.Const = constant most at
+  led at spot leads.Function = result_ most at
+  led at spot leads.Print = print most at
+  led at spot leads.Line = line_input most at
   led at spot leads.If = if_ at spot.level spot.line
   led at spot leads.For = for_ at (level_within spot.level) (line_within spot.line)
   led at spot leads.While = while_ at (level_within spot.level) (line_within spot.line)
@@ -348,11 +348,11 @@ module _ (inner : Spot → Reader Stmt) (room : ℕ) where
   led at spot leads.Scope = scope at (level_within spot.level) (line_within spot.line)
   led at spot leads.Exit = exit at
   led at spot leads.Continue = continue_ at
-  led at spot leads.Return = return_ at
-  led at spot leads.Delete = delete at
-  led at spot leads.End = end_ at
-  led at spot (leads.Call word) = called at word
-  led at spot leads.Value = valued at
+  led at spot leads.Return = return_ most at
+  led at spot leads.Delete = delete most at
+  led at spot leads.End = end_ most at
+  led at spot (leads.Call word) = called most at word
+  led at spot leads.Value = valued most at
   led at spot leads.Nothing = λ ts. Err (Fault (astray spot.other ts), ts)
 
   abbrev pub statement_at : Spot → Option Token → Reader Stmt
@@ -375,6 +375,6 @@ unfoldable pub no_room : Spot → Reader Stmt
 no_room spot = λ ts. Err (Fault (deep_at spot ts (first ts)), ts)
 
 -- A statement that is at most so deep.
-unfoldable pub stmt : ℕ → Spot → Reader Stmt
-stmt zero spot = no_room spot
-stmt (suc room) spot = statement (stmt room) room spot
+unfoldable pub stmt : ℕ → ℕ → Spot → Reader Stmt
+stmt most zero spot = no_room spot
+stmt most (suc room) spot = statement most (stmt most room) room spot

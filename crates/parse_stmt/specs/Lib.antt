@@ -8,3 +8,4 @@ pub mod Module
 pub mod Phrases
 pub mod Statements
 pub mod Texts
+pub mod Faults

@@ -1,5 +1,5 @@
 -- Types, and what a module is made of.
-use Rattle.std.specs.Prelude.{ℕ, ◌+◌, Bool, true, false, if◌then◌else◌, List, [], ◌∷◌, ◌++◌, Option, Some, None, Result, Ok, Err}
+use Rattle.std.specs.Prelude.{suc, ℕ, ◌+◌, Bool, true, false, if◌then◌else◌, List, [], ◌∷◌, ◌++◌, Option, Some, None, Result, Ok, Err}
 use Rattle.fb_base.specs.declared.fault.Span.{Span}
 use Rattle.fb_base.specs.declared.fault.FaultKind.TheVariants.{Expected, ExtraText}
 use Rattle.fb_lexer.specs.TokenList.{TokenList}
@@ -29,10 +29,10 @@ use Rattle.parse_stmt.specs.Procedures.{any_params, no_params, one_param, declar
 
 -- ---- Types
 
-unfoldable pub field : Reader Member
-field = do
+unfoldable pub field : ℕ → Reader Member
+field most = do
   n ← name
-  b ← any_bounds
+  b ← any_bounds most
   expect_word w.KwAs
   pure (member.Field n b (← type_name))
 
@@ -70,10 +70,10 @@ declared_member at = λ ts.
     else head_member at ts
 
 -- a field or a Declare
-unfoldable pub one_member : Reader Member
-one_member = λ ts.
+unfoldable pub one_member : ℕ → Reader Member
+one_member most = λ ts.
     if sees_word w.KwDeclare ts then declared_member (place_at ts) (next ts)
-    else if sees_name ts then field ts
+    else if sees_name ts then field most ts
     else refuse ts
 
 unfoldable pub ended_member : List Member → Member → Reader (List Member × Bool)
@@ -88,22 +88,22 @@ has_field [] = false
 has_field (m ∷ ms) = if is_field m then true else has_field ms
 
 -- a Type has a field at least
-unfoldable pub member_turn : Turn (List Member)
-member_turn found = λ ts.
+unfoldable pub member_turn : ℕ → Turn (List Member)
+member_turn most found = λ ts.
     if sees_word w.KwEnd ts then (if has_field found then Ok ((found, false), ts) else Err (Fault Expected, ts))
-    else (one_member >>= ended_member found) ts
+    else (one_member most >>= ended_member found) ts
 
-unfoldable pub members : Reader (List Member)
-members = all_of member_turn []
+unfoldable pub members : ℕ → Reader (List Member)
+members most = all_of (member_turn most) []
 
 -- a Type from its word on up to the word behind End
-unfoldable pub type_def : Reader Item
-type_def = do
+unfoldable pub type_def : ℕ → Reader Item
+type_def most = do
   at ← here
   take_token
   n ← name
   sep lines.Free
-  all ← members
+  all ← members most
   expect_word w.KwEnd
   expect_word w.KwType
   pure (item.Type at n all)
@@ -125,8 +125,8 @@ unfoldable pub ended_item : Found → Item → Reader (Found × Bool)
 ended_item found x = (λ ts. ended_by (first ts) ts) >> pure (record { items = found.items ++ x ∷ []; tokens = found.tokens }, true)
 
 -- a statement, and how many tokens it has
-unfoldable pub main_stmt : Reader (Stmt × ℕ)
-main_stmt = λ ts. (stmt 200 (record { level = levels.Module; line = lines.Free; other = ExtraText }) >>= (λ x rest. Ok ((x, words_before ts rest), rest))) ts
+unfoldable pub main_stmt : ℕ → ℕ → Reader (Stmt × ℕ)
+main_stmt most room = λ ts. (stmt most (suc room) (record { level = levels.Module; line = lines.Free; other = ExtraText }) >>= (λ x rest. Ok ((x, words_before ts rest), rest))) ts
 
 unfoldable pub ended_stmt : Found → Stmt × ℕ → Reader (Found × Bool)
 ended_stmt found x = (λ ts. ended_by (first ts) ts) >> pure (record { items = found.items ++ item.Stmt x.0 ∷ []; tokens = found.tokens + x.1 }, true)
@@ -145,28 +145,28 @@ procedure_word ts =
     else if sees_word w.KwOperator ts then Some words.Operator
     else None
 
-abbrev pub item_by : Found → Option ProcedureWord → Reader (Found × Bool)
-item_by found None = main_stmt >>= ended_stmt found
-item_by found (Some word) = procedure word >>= ended_item found
+abbrev pub item_by : ℕ → ℕ → Found → Option ProcedureWord → Reader (Found × Bool)
+item_by most room found None = main_stmt most room >>= ended_stmt found
+item_by most room found (Some word) = procedure most room word >>= ended_item found
 
-unfoldable pub one_item : Found → Reader (Found × Bool)
-one_item found = λ ts.
+unfoldable pub one_item : ℕ → ℕ → Found → Reader (Found × Bool)
+one_item most room found = λ ts.
     if sees_word w.KwDeclare ts then (declare >>= ended_item found) ts
-    else if sees_word w.KwType ts then (type_def >>= ended_item found) ts
-    else item_by found (procedure_word ts) ts
+    else if sees_word w.KwType ts then (type_def most >>= ended_item found) ts
+    else item_by most room found (procedure_word ts) ts
 
-unfoldable pub more_items : Found → Reader (Found × Bool)
-more_items found = λ ts. if sees_sep lines.Free ts then Ok ((found, true), next ts) else one_item found ts
+unfoldable pub more_items : ℕ → ℕ → Found → Reader (Found × Bool)
+more_items most room found = λ ts. if sees_sep lines.Free ts then Ok ((found, true), next ts) else one_item most room found ts
 
-abbrev pub item_at : Found → Option Token → Reader (Found × Bool)
-item_at found None = pure (found, false)
-item_at found (Some t) = more_items found
+abbrev pub item_at : ℕ → ℕ → Found → Option Token → Reader (Found × Bool)
+item_at most room found None = pure (found, false)
+item_at most room found (Some t) = more_items most room found
 
-unfoldable pub item_turn : Turn Found
-item_turn found = λ ts. item_at found (first ts) ts
+unfoldable pub item_turn : ℕ → ℕ → Turn Found
+item_turn most room found = λ ts. item_at most room found (first ts) ts
 
-unfoldable pub module_ : Reader Found
-module_ = all_of item_turn (record { items = []; tokens = 0 })
+unfoldable pub module_ : ℕ → ℕ → Reader Found
+module_ most room = all_of (item_turn most room) (record { items = []; tokens = 0 })
 
 abbrev pub told : TokenList → Outcome Found → Result Tree ParseErr
 told tokens (Ok p) = Ok (record { items = p.0.items; tokens = p.0.tokens; last_line = tokens.last_line })
@@ -174,4 +174,4 @@ told tokens (Err e) = Err (error_of tokens.items e.0 e.1)
 
 -- The tree of a text's tokens, or the first fault.
 abbrev pub tree_of : TokenList → Result Tree ParseErr
-tree_of tokens = told tokens (module_ tokens.items)
+tree_of tokens = told tokens (module_ 200 199 tokens.items)

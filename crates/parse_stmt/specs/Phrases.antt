@@ -10,7 +10,7 @@ use Rattle.fb_ast.specs.declared.expr.Expr.{Expr}
 use Rattle.fb_ast.specs.declared.part.Name.{Name}
 use Rattle.fb_ast.specs.declared.ty.TypeName.{TypeName}
 use Rattle.parse_expr.specs.Reading.{next, sees, sees_word}
-use Rattle.parse_expr.specs.Grammar.{IsType, Is, Expression, IsExpression}
+use Rattle.parse_expr.specs.Grammar.{IsType, Is, Expression}
 use Rattle.parse_stmt.specs.declared.kinds.Line.{Line}
 use Rattle.parse_stmt.specs.Steps.{place_at, sees_sep}
 
@@ -102,9 +102,13 @@ name = IsName
 abbrev pub ty : Phrase TypeName
 ty = λ ts x rest. (front : List Token) × (ts ≡ front ++ rest) × IsType front x
 
-abbrev pub expression : Phrase Expr
-expression = λ ts x rest. (front : List Token) × (ts ≡ front ++ rest) × IsExpression front x
+-- an expression that is at most so deep
+abbrev pub IsWithin : ℕ → List Token → Expr → Type 0
+IsWithin deepest front x = (depth : ℕ) × (depth ≤ deepest) × Is (Expression 1 depth x) front
+
+abbrev pub expression : ℕ → Phrase Expr
+expression most = λ ts x rest. (front : List Token) × (ts ≡ front ++ rest) × IsWithin most front x
 
 -- what may stand on the left of `=`: an expression without operators but a `*` before it
-abbrev pub place : Phrase Expr
-place = λ ts x rest. (front : List Token) × (depth : ℕ) × (ts ≡ front ++ rest) × (depth ≤ 200) × Is (Expression 14 depth x) front × (sees At ts ≡ false) × (sees Minus ts ≡ false)
+abbrev pub place : ℕ → Phrase Expr
+place most = λ ts x rest. (front : List Token) × (depth : ℕ) × (ts ≡ front ++ rest) × (depth ≤ most) × Is (Expression 14 depth x) front × (sees At ts ≡ false) × (sees Minus ts ≡ false)

@@ -1,5 +1,5 @@
 -- Heads, Declares and procedures.
-use Rattle.std.specs.Prelude.{Bool, true, false, if◌then◌else◌, List, [], Option, Some, None, Ok}
+use Rattle.std.specs.Prelude.{ℕ, Bool, true, false, if◌then◌else◌, List, [], Option, Some, None, Ok}
 use Rattle.fb_base.specs.declared.fault.Span.{Span}
 use Rattle.fb_base.specs.declared.fault.FaultKind.TheVariants.{Expected}
 use Rattle.fb_lexer.specs.declared.token.Token.{Token}
@@ -234,26 +234,26 @@ opened words.Constructor at = constructor at
 opened words.Destructor at = destructor at
 opened words.Operator at = operator_behind at
 
-unfoldable pub statements : Closer → Reader Block
-statements closer = body (stmt 199) 199 levels.Procedure lines.Free closer
+unfoldable pub statements : ℕ → ℕ → Closer → Reader Block
+statements most room closer = body most (stmt most room) room levels.Procedure lines.Free closer
 
 -- behind the head, up to the word behind End
-unfoldable pub procedure_body : Closer → Reader Block
-procedure_body closer = do
+unfoldable pub procedure_body : ℕ → ℕ → Closer → Reader Block
+procedure_body most room closer = do
   sep lines.Free
-  b ← statements closer
+  b ← statements most room closer
   take_token
   take_token
   pure b
 
-unfoldable pub procedure_parts : ProcedureWord → Reader (ProcedureKind × Block)
-procedure_parts word = do
+unfoldable pub procedure_parts : ℕ → ℕ → ProcedureWord → Reader (ProcedureKind × Block)
+procedure_parts most room word = do
   at ← here
   take_token
   o ← opened word at
-  b ← procedure_body o.1
+  b ← procedure_body most room o.1
   pure (o.0, b)
 
 -- a procedure from its first word on up to the word behind End
-unfoldable pub procedure : ProcedureWord → Reader Item
-procedure word = λ ts. (procedure_parts word >>= (λ p rest. Ok (item.Procedure (record { kind = p.0; body = p.1; tokens = words_before ts rest }), rest))) ts
+unfoldable pub procedure : ℕ → ℕ → ProcedureWord → Reader Item
+procedure most room word = λ ts. (procedure_parts most room word >>= (λ p rest. Ok (item.Procedure (record { kind = p.0; body = p.1; tokens = words_before ts rest }), rest))) ts

@@ -1,5 +1,5 @@
 -- Statements without statements inside.
-use Rattle.std.specs.Prelude.{Bool, true, false, if◌then◌else◌, List, [], ◌∷◌, ◌++◌, Option, Some, None, Ok}
+use Rattle.std.specs.Prelude.{ℕ, Bool, true, false, if◌then◌else◌, List, [], ◌∷◌, ◌++◌, Option, Some, None, Ok}
 use Rattle.fb_base.specs.declared.fault.Span.{Span}
 use Rattle.fb_base.specs.declared.fault.FaultKind.TheVariants.{Expected}
 use Rattle.fb_lexer.specs.declared.token.Token.{Token}
@@ -35,38 +35,38 @@ assignment_at None = None
 assignment_at (Some t) = with_place t.at (assignment_of t.kind)
 
 -- from the mark on
-unfoldable pub assign : Span → Expr → Assignment → Span → Reader Stmt
-assign at left which mark_at = do
+unfoldable pub assign : ℕ → Span → Expr → Assignment → Span → Reader Stmt
+assign most at left which mark_at = do
   take_token
-  pure (s.Assign at left which mark_at (← whole))
+  pure (s.Assign at left which mark_at (← whole most))
 
-abbrev pub assign_by : Span → Expr → Reader Stmt → Option (Assignment × Span) → Reader Stmt
-assign_by at left other None = other
-assign_by at left other (Some p) = assign at left p.0 p.1
+abbrev pub assign_by : ℕ → Span → Expr → Reader Stmt → Option (Assignment × Span) → Reader Stmt
+assign_by most at left other None = other
+assign_by most at left other (Some p) = assign most at left p.0 p.1
 
 -- what is no call has to be assigned to
-unfoldable pub must_assign : Span → Expr → Reader Stmt
-must_assign at left = λ ts. assign_by at left (stop Expected) (assignment_at (first ts)) ts
+unfoldable pub must_assign : ℕ → Span → Expr → Reader Stmt
+must_assign most at left = λ ts. assign_by most at left (stop Expected) (assignment_at (first ts)) ts
 
-unfoldable pub may_assign : Span → Expr → Reader Stmt
-may_assign at left = λ ts. assign_by at left (pure (s.Call at left)) (assignment_at (first ts)) ts
+unfoldable pub may_assign : ℕ → Span → Expr → Reader Stmt
+may_assign most at left = λ ts. assign_by most at left (pure (s.Call at left)) (assignment_at (first ts)) ts
 
-unfoldable pub value_turn : Turn (List Expr)
-value_turn found = whole >>= comma_behind found
+unfoldable pub value_turn : ℕ → Turn (List Expr)
+value_turn most found = whole most >>= comma_behind found
 
-unfoldable pub values : Reader (List Expr)
-values = all_of value_turn []
+unfoldable pub values : ℕ → Reader (List Expr)
+values most = all_of (value_turn most) []
 
 -- arguments without parentheses, perhaps none
-unfoldable pub arguments : Reader (List Expr)
-arguments = λ ts. if sees_value ts then values ts else (no_value >> pure []) ts
+unfoldable pub arguments : ℕ → Reader (List Expr)
+arguments most = λ ts. if sees_value ts then values most ts else (no_value >> pure []) ts
 
-unfoldable pub call_name : Span → Name → Reader Stmt
-call_name at n = do pure (s.CallName at n (← arguments))
+unfoldable pub call_name : ℕ → Span → Name → Reader Stmt
+call_name most at n = do pure (s.CallName at n (← arguments most))
 
 -- behind a name with which nothing goes on
-unfoldable pub named : Span → Name → Reader Stmt
-named at n = λ ts. assign_by at (e.Name n.at n.text) (call_name at n) (assignment_at (first ts)) ts
+unfoldable pub named : ℕ → Span → Name → Reader Stmt
+named most at n = λ ts. assign_by most at (e.Name n.at n.text) (call_name most at n) (assignment_at (first ts)) ts
 
 abbrev pub is_call_in : Expr-F Expr → Bool
 is_call_in (Expr-F.Call _ _ _) = true
@@ -76,8 +76,8 @@ is_call_in other = false
 abbrev pub is_call : Expr → Bool
 is_call x = is_call_in (out-Expr x)
 
-unfoldable pub headed : Span → Expr → Reader Stmt
-headed at x = if is_call x then may_assign at x else must_assign at x
+unfoldable pub headed : ℕ → Span → Expr → Reader Stmt
+headed most at x = if is_call x then may_assign most at x else must_assign most at x
 
 -- a mark that goes on with a name
 abbrev pub goes_on : TokenKind → Bool
@@ -92,24 +92,24 @@ unfoldable pub sees_bare : List Token → Bool
 sees_bare ts = if sees_name ts then (if holds goes_on (first (next ts)) then false else true) else false
 
 -- a statement that begins with an operand: an assignment or a call
-unfoldable pub valued : Span → Reader Stmt
-valued at = λ ts. if sees_bare ts then (name >>= named at) ts else (place >>= headed at) ts
+unfoldable pub valued : ℕ → Span → Reader Stmt
+valued most at = λ ts. if sees_bare ts then (name >>= named most at) ts else (place most >>= headed most at) ts
 
 abbrev pub sees_open_behind : List Token → Bool
 sees_open_behind ts = sees Open (next ts)
 
 -- a word that is called and gives nothing, with parentheses or without
-unfoldable pub called : Span → CallWord → Reader Stmt
-called at word = λ ts.
-    if sees_open_behind ts then valued at ts
-    else (do take_token; pure (s.CallWord at word (← arguments))) ts
+unfoldable pub called : ℕ → Span → CallWord → Reader Stmt
+called most at word = λ ts.
+    if sees_open_behind ts then valued most at ts
+    else (do take_token; pure (s.CallWord at word (← arguments most))) ts
 
 -- `Function = e`
-unfoldable pub result_ : Span → Reader Stmt
-result_ at = do
+unfoldable pub result_ : ℕ → Span → Reader Stmt
+result_ most at = do
   take_token
   expect Equal
-  pure (s.Result at (← whole))
+  pure (s.Result at (← whole most))
 
 -- ---- input and output
 
@@ -120,26 +120,26 @@ sees_between ts = if sees Semicolon ts then true else sees Comma ts
 unfoldable pub printed_value : List Printed → Expr → Reader (List Printed × Bool)
 printed_value found x = λ ts. Ok ((found ++ printed.Expr x ∷ [], sees_between ts), ts)
 
-unfoldable pub print_turn : Turn (List Printed)
-print_turn found = λ ts.
+unfoldable pub print_turn : ℕ → Turn (List Printed)
+print_turn most found = λ ts.
     if sees Semicolon ts then Ok ((found ++ printed.Semicolon (place_at ts) ∷ [], true), next ts)
     else if sees Comma ts then Ok ((found ++ printed.Comma (place_at ts) ∷ [], true), next ts)
-    else if sees_value ts then (whole >>= printed_value found) ts
+    else if sees_value ts then (whole most >>= printed_value found) ts
     else (no_value >> pure (found, false)) ts
 
-unfoldable pub all_printed : Reader (List Printed)
-all_printed = all_of print_turn []
+unfoldable pub all_printed : ℕ → Reader (List Printed)
+all_printed most = all_of (print_turn most) []
 
-unfoldable pub print : Span → Reader Stmt
-print at = do
+unfoldable pub print : ℕ → Span → Reader Stmt
+print most at = do
   take_token
-  pure (s.Print at (← all_printed))
+  pure (s.Print at (← all_printed most))
 
-unfoldable pub line_input : Span → Reader Stmt
-line_input at = do
+unfoldable pub line_input : ℕ → Span → Reader Stmt
+line_input most at = do
   take_token
   expect_word w.KwInput
-  pure (s.LineInput at (← place))
+  pure (s.LineInput at (← place most))
 
 -- ---- leaving
 
@@ -165,21 +165,21 @@ continue_by at (Some which) = take_token >> pure (s.Continue at which)
 unfoldable pub continue_ : Span → Reader Stmt
 continue_ at = take_token >> (λ ts. continue_by at (continue_at (first ts)) ts)
 
-unfoldable pub return_ : Span → Reader Stmt
-return_ at = do
+unfoldable pub return_ : ℕ → Span → Reader Stmt
+return_ most at = do
   take_token
-  pure (s.Return at (← any_value))
+  pure (s.Return at (← any_value most))
 
 unfoldable pub brackets : Reader Bool
 brackets = λ ts. if sees OpenBracket ts then (expect CloseBracket >> pure true) (next ts) else Ok (false, ts)
 
-unfoldable pub delete : Span → Reader Stmt
-delete at = do
+unfoldable pub delete : ℕ → Span → Reader Stmt
+delete most at = do
   take_token
   all ← brackets
-  pure (s.Delete at all (← whole))
+  pure (s.Delete at all (← whole most))
 
-unfoldable pub end_ : Span → Reader Stmt
-end_ at = do
+unfoldable pub end_ : ℕ → Span → Reader Stmt
+end_ most at = do
   take_token
-  pure (s.End at (← any_value))
+  pure (s.End at (← any_value most))

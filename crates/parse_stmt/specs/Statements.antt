@@ -43,47 +43,47 @@ use Rattle.parse_stmt.specs.Phrases.{Phrase, gives, ◌>>=◌, ◌>>◌, either,
 -- ---- variables
 
 -- `expr [ To expr ] )`
-abbrev pub bounds : Phrase Bounds
-bounds = do
-  one ← expression
-  b ← either (do word w.KwTo; high ← expression; gives (record { low = Some one; high = high })) (gives (record { low = None; high = one }))
+abbrev pub bounds : ℕ → Phrase Bounds
+bounds most = do
+  one ← expression most
+  b ← either (do word w.KwTo; high ← expression most; gives (record { low = Some one; high = high })) (gives (record { low = None; high = one }))
   mark Close
   gives b
 
 -- a variable with its type
-abbrev pub var : Phrase Var
-var = do
+abbrev pub var : ℕ → Phrase Var
+var most = do
   n ← name
-  b ← behind_mark Open bounds
+  b ← behind_mark Open (bounds most)
   word w.KwAs
   t ← ty
-  init ← behind_mark Equal expression
+  init ← behind_mark Equal (expression most)
   gives (record { name = n; bounds = b; ty = t; init = init })
 
 -- a variable behind the type that all share
-abbrev pub shared_var : Phrase SharedVar
-shared_var = do
+abbrev pub shared_var : ℕ → Phrase SharedVar
+shared_var most = do
   n ← name
-  b ← behind_mark Open bounds
-  init ← behind_mark Equal expression
+  b ← behind_mark Open (bounds most)
+  init ← behind_mark Equal (expression most)
   gives (record { name = n; bounds = b; init = init })
 
-abbrev pub variables : Span → Storage → Phrase Stmt
-variables at where_ = either
-    (do word w.KwAs; t ← ty; all ← Listed shared_var; gives (s.DimAs at where_ t all))
-    (do all ← Listed var; gives (s.Dim at where_ all))
+abbrev pub variables : ℕ → Span → Storage → Phrase Stmt
+variables most at where_ = either
+    (do word w.KwAs; t ← ty; all ← Listed (shared_var most); gives (s.DimAs at where_ t all))
+    (do all ← Listed (var most); gives (s.Dim at where_ all))
 
 -- Dim Shared stands at the module's level alone.
-abbrev pub dim_with : Bool → Span → Phrase Stmt
-dim_with true at = either (word w.KwShared >> variables at storage.Shared) (variables at storage.Scope)
-dim_with false at = variables at storage.Scope
+abbrev pub dim_with : ℕ → Bool → Span → Phrase Stmt
+dim_with most true at = either (word w.KwShared >> variables most at storage.Shared) (variables most at storage.Scope)
+dim_with most false at = variables most at storage.Scope
 
-abbrev pub constant : Span → Phrase Stmt
-constant at = do
+abbrev pub constant : ℕ → Span → Phrase Stmt
+constant most at = do
   n ← name
   t ← behind_word w.KwAs ty
   mark Equal
-  x ← expression
+  x ← expression most
   gives (s.Const at n t x)
 
 -- ---- assignments and calls
@@ -97,98 +97,98 @@ pub record Chosen {A : Type 0} (table : Option Token → Option A) (ts : List To
 abbrev pub assigns : Phrase (Assignment × Span)
 assigns = Chosen assignment_at
 
-abbrev pub values : Phrase (List Expr)
-values = either (Listed expression) (gives [])
+abbrev pub values : ℕ → Phrase (List Expr)
+values most = either (Listed (expression most)) (gives [])
 
 -- No parenthesis comes next: a name takes one that does as the beginning of its arguments in parentheses.
 abbrev pub is_alone : List Token → Bool
 is_alone ts = if sees Open ts then false else true
 
 -- a place that is assigned to
-abbrev pub assignment : Span → Phrase Stmt
-assignment at = do
-  left ← place
+abbrev pub assignment : ℕ → Span → Phrase Stmt
+assignment most at = do
+  left ← place most
   how ← assigns
-  x ← expression
+  x ← expression most
   gives (s.Assign at left how.0 how.1 x)
 
 abbrev pub call_only : Expr → Phrase Expr
 call_only x = λ ts y rest. (is_call x ≡ true) × (y ≡ x) × (rest ≡ ts)
 
 -- a call with parentheses
-abbrev pub call : Span → Phrase Stmt
-call at = do
-  x ← place
+abbrev pub call : ℕ → Span → Phrase Stmt
+call most at = do
+  x ← place most
   call_only x
   gives (s.Call at x)
 
 -- a call without parentheses: no parenthesis follows the name
-abbrev pub call_name : Span → Phrase Stmt
-call_name at = do
+abbrev pub call_name : ℕ → Span → Phrase Stmt
+call_name most at = do
   n ← before is_alone name
-  all ← values
+  all ← values most
   gives (s.CallName at n all)
 
-abbrev pub valued : Span → Phrase Stmt
-valued at = either (assignment at) (either (call at) (call_name at))
+abbrev pub valued : ℕ → Span → Phrase Stmt
+valued most at = either (assignment most at) (either (call most at) (call_name most at))
 
 -- a word that is called and gives nothing: with parentheses, or without
-abbrev pub call_word : Span → CallWord → Phrase Stmt
-call_word at which = λ ts x rest.
-    ((sees Open (next ts) ≡ true) × valued at ts x rest)
-    ⊎ ((sees Open (next ts) ≡ false) × (do any_token; all ← values; gives (s.CallWord at which all)) ts x rest)
+abbrev pub call_word : ℕ → Span → CallWord → Phrase Stmt
+call_word most at which = λ ts x rest.
+    ((sees Open (next ts) ≡ true) × valued most at ts x rest)
+    ⊎ ((sees Open (next ts) ≡ false) × (do any_token; all ← values most; gives (s.CallWord at which all)) ts x rest)
 
 -- ---- input and output
 
 -- What Print prints. An expression may come next at the beginning, and behind a semicolon or a comma.
-pub data AllPrinted : Bool → List Token → List Printed → List Token → Type 0 where
-  nothing : (fresh : Bool) (ts : List Token) → AllPrinted fresh ts [] ts
-  semicolon : (fresh : Bool) (ts rest : List Token) (all : List Printed) → sees Semicolon ts ≡ true → AllPrinted true (next ts) all rest
-      → AllPrinted fresh ts (printed.Semicolon (place_at ts) ∷ all) rest
-  comma : (fresh : Bool) (ts rest : List Token) (all : List Printed) → sees Comma ts ≡ true → AllPrinted true (next ts) all rest
-      → AllPrinted fresh ts (printed.Comma (place_at ts) ∷ all) rest
-  value : (ts between rest : List Token) (x : Expr) (all : List Printed) → expression ts x between → AllPrinted false between all rest
-      → AllPrinted true ts (printed.Expr x ∷ all) rest
+pub data AllPrinted (most : ℕ) : Bool → List Token → List Printed → List Token → Type 0 where
+  nothing : (fresh : Bool) (ts : List Token) → AllPrinted most fresh ts [] ts
+  semicolon : (fresh : Bool) (ts rest : List Token) (all : List Printed) → sees Semicolon ts ≡ true → AllPrinted most true (next ts) all rest
+      → AllPrinted most fresh ts (printed.Semicolon (place_at ts) ∷ all) rest
+  comma : (fresh : Bool) (ts rest : List Token) (all : List Printed) → sees Comma ts ≡ true → AllPrinted most true (next ts) all rest
+      → AllPrinted most fresh ts (printed.Comma (place_at ts) ∷ all) rest
+  value : (ts between rest : List Token) (x : Expr) (all : List Printed) → expression most ts x between → AllPrinted most false between all rest
+      → AllPrinted most true ts (printed.Expr x ∷ all) rest
 
 -- ---- parts of loops and of Select
 
 -- the values of a counter: the first, the last, and the step
-abbrev pub range : Phrase (Expr × Expr × Option Expr)
-range = do
-  start ← expression
+abbrev pub range : ℕ → Phrase (Expr × Expr × Option Expr)
+range most = do
+  start ← expression most
   word w.KwTo
-  end ← expression
-  step ← behind_word w.KwStep expression
+  end ← expression most
+  step ← behind_word w.KwStep (expression most)
   gives (start, end, step)
 
 -- a counter, its type if it is written, and its values
-abbrev pub for_head : Phrase (Name × Option TypeName × (Expr × Expr × Option Expr))
-for_head = do
+abbrev pub for_head : ℕ → Phrase (Name × Option TypeName × (Expr × Expr × Option Expr))
+for_head most = do
   n ← name
   t ← behind_word w.KwAs ty
   mark Equal
-  values ← range
-  gives (n, t, values)
+  all ← range most
+  gives (n, t, all)
 
 -- the test of a Do
-abbrev pub test : Phrase Test
-test = do
+abbrev pub test : ℕ → Phrase Test
+test most = do
   at ← here
   which ← Chosen until_at
-  x ← expression
+  x ← expression most
   gives (record { at = at; word = which; condition = x })
 
 -- A Do has one test at most.
-abbrev pub last_test : Option Test → Phrase (Option Test)
-last_test None = maybe test
-last_test (Some other) = gives None
+abbrev pub last_test : ℕ → Option Test → Phrase (Option Test)
+last_test most None = maybe (test most)
+last_test most (Some other) = gives None
 
-abbrev pub one_case : Phrase Case
-one_case = either (do at ← here; word w.KwIs; which ← Chosen comparison_at; x ← expression; gives (case.Is at which x))
-    (do low ← expression; either (do word w.KwTo; high ← expression; gives (case.Range low high)) (gives (case.Value low)))
+abbrev pub one_case : ℕ → Phrase Case
+one_case most = either (do at ← here; word w.KwIs; which ← Chosen comparison_at; x ← expression most; gives (case.Is at which x))
+    (do low ← expression most; either (do word w.KwTo; high ← expression most; gives (case.Range low high)) (gives (case.Value low)))
 
-abbrev pub all_cases : Phrase Cases
-all_cases = either (word w.KwElse >> gives cases.Else) (do all ← Listed one_case; gives (cases.List all))
+abbrev pub all_cases : ℕ → Phrase Cases
+all_cases most = either (word w.KwElse >> gives cases.Else) (do all ← Listed (one_case most); gives (cases.List all))
 
 -- a phrase any number of times
 pub data Many {A : Type 0} (one : Phrase A) : List Token → List A → List Token → Type 0 where
@@ -219,7 +219,7 @@ pub data Row (one : Phrase Stmt) : List Token → List Stmt → List Token → T
       → Row one (next between) all rest → Row one ts (x ∷ all) rest
 
 -- The statements inside stand for themselves, by where they stand in the module and in their line.
-module _ (inner : Level → Line → Phrase Stmt) where
+module _ (most : ℕ) (inner : Level → Line → Phrase Stmt) where
   -- a block, up to the place of what ends it
   abbrev pub body : Level → Line → Phrase Block
   body level line = do
@@ -258,7 +258,7 @@ module _ (inner : Level → Line → Phrase Stmt) where
   else_if level line = do
     at ← here
     word w.KwElseIf
-    condition ← expression
+    condition ← expression most
     word w.KwThen
     sep line
     branch at condition level line
@@ -283,7 +283,7 @@ module _ (inner : Level → Line → Phrase Stmt) where
   abbrev pub if_ : Span → Level → Line → Phrase Stmt
   if_ at level line = do
     any_token
-    condition ← expression
+    condition ← expression most
     word w.KwThen
     either (sep line >> if_block at condition (level_within level) (line_within line)) (if_line line at condition (level_within level))
 
@@ -301,14 +301,14 @@ module _ (inner : Level → Line → Phrase Stmt) where
   abbrev pub for_ : Span → Level → Line → Phrase Stmt
   for_ at level line = do
     any_token
-    head ← for_head
+    head ← for_head most
     tail ← for_tail level line
     gives (s.For at head.0 head.1 head.2.0 head.2.1 head.2.2 tail.0 tail.1)
 
   abbrev pub while_ : Span → Level → Line → Phrase Stmt
   while_ at level line = do
     any_token
-    condition ← expression
+    condition ← expression most
     sep line
     b ← body level line
     word w.KwWend
@@ -317,11 +317,11 @@ module _ (inner : Level → Line → Phrase Stmt) where
   abbrev pub do_ : Span → Level → Line → Phrase Stmt
   do_ at level line = do
     any_token
-    one ← maybe test
+    one ← maybe (test most)
     sep line
     b ← body level line
     word w.KwLoop
-    other ← last_test one
+    other ← last_test most one
     gives (s.Do at one b other)
 
   -- ---- Select and Scope
@@ -330,7 +330,7 @@ module _ (inner : Level → Line → Phrase Stmt) where
   case_branch level line = do
     at ← here
     word w.KwCase
-    all ← all_cases
+    all ← all_cases most
     sep line
     b ← body level line
     gives (roll-CaseBranch (record { at = at; cases = all; body = b }))
@@ -339,7 +339,7 @@ module _ (inner : Level → Line → Phrase Stmt) where
   select at level line = do
     any_token
     word w.KwCase
-    x ← expression
+    x ← expression most
     sep line
     all ← Many (case_branch level line)
     end ← end_of w.KwSelect
@@ -357,12 +357,12 @@ module _ (inner : Level → Line → Phrase Stmt) where
 
   -- a statement from its first token on, by what that is
   abbrev pub led : Span → Level → Line → Lead → Phrase Stmt
-  led at level line leads.Dim = any_token >> dim_with (may_share level) at
-  led at level line leads.Static = any_token >> variables at storage.Static
-  led at level line leads.Const = any_token >> constant at
-  led at level line leads.Function = do any_token; mark Equal; x ← expression; gives (s.Result at x)
-  led at level line leads.Print = do any_token; all ← AllPrinted true; gives (s.Print at all)
-  led at level line leads.Line = do any_token; word w.KwInput; x ← place; gives (s.LineInput at x)
+  led at level line leads.Dim = any_token >> dim_with most (may_share level) at
+  led at level line leads.Static = any_token >> variables most at storage.Static
+  led at level line leads.Const = any_token >> constant most at
+  led at level line leads.Function = do any_token; mark Equal; x ← expression most; gives (s.Result at x)
+  led at level line leads.Print = do any_token; all ← AllPrinted most true; gives (s.Print at all)
+  led at level line leads.Line = do any_token; word w.KwInput; x ← place most; gives (s.LineInput at x)
   led at level line leads.If = if_ at level line
   led at level line leads.For = for_ at (level_within level) (line_within line)
   led at level line leads.While = while_ at (level_within level) (line_within line)
@@ -371,21 +371,21 @@ module _ (inner : Level → Line → Phrase Stmt) where
   led at level line leads.Scope = scope at (level_within level) (line_within line)
   led at level line leads.Exit = do any_token; which ← Chosen exit_at; gives (s.Exit at which)
   led at level line leads.Continue = do any_token; which ← Chosen continue_at; gives (s.Continue at which)
-  led at level line leads.Return = do any_token; x ← maybe expression; gives (s.Return at x)
+  led at level line leads.Return = do any_token; x ← maybe (expression most); gives (s.Return at x)
   led at level line leads.Delete = do
     any_token
     all ← either (do mark OpenBracket; mark CloseBracket; gives true) (gives false)
-    x ← expression
+    x ← expression most
     gives (s.Delete at all x)
-  led at level line leads.End = do any_token; x ← maybe expression; gives (s.End at x)
-  led at level line (leads.Call which) = call_word at which
-  led at level line leads.Value = valued at
+  led at level line leads.End = do any_token; x ← maybe (expression most); gives (s.End at x)
+  led at level line (leads.Call which) = call_word most at which
+  led at level line leads.Value = valued most at
   led at level line leads.Nothing = λ ts x rest. ⊥
 
   abbrev pub statement : Level → Line → Phrase Stmt
   statement level line = λ ts x rest. (t : Token) × (more : List Token) × (ts ≡ t ∷ more) × led t.at level line (lead_of level t.kind) ts x rest
 
 -- A statement that is at most so deep: those inside are at most one less deep.
-abbrev pub stmt : ℕ → Level → Line → Phrase Stmt
-stmt zero level line = λ ts x rest. ⊥
-stmt (suc room) level line = statement (stmt room) level line
+abbrev pub stmt : ℕ → ℕ → Level → Line → Phrase Stmt
+stmt most zero level line = λ ts x rest. ⊥
+stmt most (suc room) level line = statement most (stmt most room) level line

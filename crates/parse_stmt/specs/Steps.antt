@@ -90,12 +90,12 @@ sep line = λ ts. if sees_sep line ts then Ok (tt, next ts) else Err (Fault (ext
 
 -- ---- expressions
 
-unfoldable pub whole : Reader Expr
-whole = expr 200 1 >>= (λ x. pure x.0)
+unfoldable pub whole : ℕ → Reader Expr
+whole most = expr most 1 >>= (λ x. pure x.0)
 
 -- a place: an expression with nothing before it but `*`
-unfoldable pub place : Reader Expr
-place = λ ts. if sees At ts then Err (Fault Expected, ts) else if sees Minus ts then Err (Fault Expected, ts) else (expr 200 14 >>= (λ x. pure x.0)) ts
+unfoldable pub place : ℕ → Reader Expr
+place most = λ ts. if sees At ts then Err (Fault Expected, ts) else if sees Minus ts then Err (Fault Expected, ts) else (expr most 14 >>= (λ x. pure x.0)) ts
 
 -- where an operand may begin and none does
 abbrev pub pass_by : FaultKind → Reader (Unit {0})
@@ -109,16 +109,16 @@ unfoldable pub sees_value : List Token → Bool
 sees_value ts = begins 1 (first ts)
 
 -- an expression, if one begins
-unfoldable pub any_value : Reader (Option Expr)
-any_value = λ ts. if sees_value ts then (do x ← whole; pure (Some x)) ts else (no_value >> pure None) ts
+unfoldable pub any_value : ℕ → Reader (Option Expr)
+any_value most = λ ts. if sees_value ts then (do x ← whole most; pure (Some x)) ts else (no_value >> pure None) ts
 
 -- an expression behind this word, if it comes next
-unfoldable pub value_behind : Word → Reader (Option Expr)
-value_behind word = λ ts. if sees_word word ts then (do x ← whole; pure (Some x)) (next ts) else Ok (None, ts)
+unfoldable pub value_behind : ℕ → Word → Reader (Option Expr)
+value_behind most word = λ ts. if sees_word word ts then (do x ← whole most; pure (Some x)) (next ts) else Ok (None, ts)
 
 -- `=` and a value, if it comes next
-unfoldable pub initial : Reader (Option Expr)
-initial = λ ts. if sees Equal ts then (do x ← whole; pure (Some x)) (next ts) else Ok (None, ts)
+unfoldable pub initial : ℕ → Reader (Option Expr)
+initial most = λ ts. if sees Equal ts then (do x ← whole most; pure (Some x)) (next ts) else Ok (None, ts)
 
 -- ---- names and types
 

@@ -1,5 +1,5 @@
 -- The grammar of procedures and Types, and of a whole text (FreeBASIC Manual, Procedures and Types).
-use Rattle.std.specs.Prelude.{◌≡◌, ℕ, ◌+◌, Bool, true, false, List, [], ◌∷◌, Option, Some, None, ◌⊎◌}
+use Rattle.std.specs.Prelude.{◌≡◌, suc, ℕ, ◌+◌, Bool, true, false, List, [], ◌∷◌, Option, Some, None, ◌⊎◌}
 use Rattle.fb_base.specs.declared.fault.Span.{Span}
 use Rattle.fb_lexer.specs.declared.token.Token.{Token}
 use Rattle.fb_lexer.specs.declared.token.Mark.TheVariants.{Open, Close, Comma, Dot}
@@ -132,10 +132,10 @@ end_word closers.Destructor = w.KwDestructor
 end_word other = w.KwOperator
 
 -- from behind the head to the word behind End
-abbrev pub ended_by : Closer → Phrase Block
-ended_by closer = do
+abbrev pub ended_by : ℕ → ℕ → Closer → Phrase Block
+ended_by most room closer = do
   sep lines.Free
-  b ← body (stmt 199) levels.Procedure lines.Free
+  b ← body most (stmt most room) levels.Procedure lines.Free
   end_of (end_word closer)
   gives b
 
@@ -183,31 +183,31 @@ mark_operator at = do
   gives (kind.Operator at which mark_at both.0 both.1 t, closers.Operator)
 
 -- a procedure that begins with this word
-abbrev pub procedure_with : Word → (Span → Phrase Opening) → Phrase (ProcedureKind × Block)
-procedure_with which opened = do
+abbrev pub procedure_with : ℕ → ℕ → Word → (Span → Phrase Opening) → Phrase (ProcedureKind × Block)
+procedure_with most room which opened = do
   at ← here
   word which
   o ← opened at
-  b ← ended_by o.1
+  b ← ended_by most room o.1
   gives (o.0, b)
 
-abbrev pub procedure_parts : Phrase (ProcedureKind × Block)
-procedure_parts = either (procedure_with w.KwSub (λ at. do n ← name; sub_behind at n))
-    (either (procedure_with w.KwFunction (λ at. do n ← name; function_behind at n))
-    (either (procedure_with w.KwConstructor constructor)
-    (either (procedure_with w.KwDestructor destructor)
-    (procedure_with w.KwOperator (λ at. either (let_operator at) (mark_operator at))))))
+abbrev pub procedure_parts : ℕ → ℕ → Phrase (ProcedureKind × Block)
+procedure_parts most room = either (procedure_with most room w.KwSub (λ at. do n ← name; sub_behind at n))
+    (either (procedure_with most room w.KwFunction (λ at. do n ← name; function_behind at n))
+    (either (procedure_with most room w.KwConstructor constructor)
+    (either (procedure_with most room w.KwDestructor destructor)
+    (procedure_with most room w.KwOperator (λ at. either (let_operator at) (mark_operator at))))))
 
 -- a procedure, and how many tokens it has
-abbrev pub procedure : Phrase Item
-procedure = λ ts x rest. (p : ProcedureKind × Block) × procedure_parts ts p rest × (x ≡ item.Procedure (record { kind = p.0; body = p.1; tokens = words_before ts rest }))
+abbrev pub procedure : ℕ → ℕ → Phrase Item
+procedure most room = λ ts x rest. (p : ProcedureKind × Block) × procedure_parts most room ts p rest × (x ≡ item.Procedure (record { kind = p.0; body = p.1; tokens = words_before ts rest }))
 
 -- ---- Types
 
-abbrev pub field : Phrase Member
-field = do
+abbrev pub field : ℕ → Phrase Member
+field most = do
   n ← name
-  b ← behind_mark Open bounds
+  b ← behind_mark Open (bounds most)
   word w.KwAs
   t ← ty
   gives (member.Field n b t)
@@ -219,26 +219,26 @@ declared_member at = either (do word_at ← here; word w.KwConstructor; all ← 
     (either (do word w.KwOperator; let_at ← here; word w.KwLet; p ← one_param true; gives (member.Let at let_at p))
     (do h ← declared_head; gives (member.Declare at h))))
 
-abbrev pub one_member : Phrase Member
-one_member = either (do at ← here; word w.KwDeclare; declared_member at) field
+abbrev pub one_member : ℕ → Phrase Member
+one_member most = either (do at ← here; word w.KwDeclare; declared_member at) (field most)
 
 -- members, each with an end
-pub data Members : List Token → List Member → List Token → Type 0 where
-  none : (ts : List Token) → Members ts [] ts
-  some : (ts between rest : List Token) (x : Member) (all : List Member) → one_member ts x between → sees_sep lines.Free between ≡ true
-      → Members (next between) all rest → Members ts (x ∷ all) rest
+pub data Members (most : ℕ) : List Token → List Member → List Token → Type 0 where
+  none : (ts : List Token) → Members most ts [] ts
+  some : (ts between rest : List Token) (x : Member) (all : List Member) → one_member most ts x between → sees_sep lines.Free between ≡ true
+      → Members most (next between) all rest → Members most ts (x ∷ all) rest
 
 -- a Type has a field at least
 abbrev pub with_field : List Member → Phrase (Unit {0})
 with_field all = λ ts u rest. (has_field all ≡ true) × (rest ≡ ts)
 
-abbrev pub type_def : Phrase Item
-type_def = do
+abbrev pub type_def : ℕ → Phrase Item
+type_def most = do
   at ← here
   word w.KwType
   n ← name
   sep lines.Free
-  all ← Members
+  all ← Members most
   with_field all
   word w.KwEnd
   word w.KwType
@@ -247,19 +247,23 @@ type_def = do
 -- ---- the text
 
 -- What stands at the module's level, and how many tokens of it are the main module's.
-abbrev pub one_item : Phrase (Item × ℕ)
-one_item = λ ts p rest.
-    ((p.1 ≡ 0) × (declare ts p.0 rest ⊎ type_def ts p.0 rest ⊎ procedure ts p.0 rest))
-    ⊎ ((x : Stmt) × stmt 200 levels.Module lines.Free ts x rest × (p ≡ (item.Stmt x, words_before ts rest)))
+abbrev pub one_item : ℕ → ℕ → Phrase (Item × ℕ)
+one_item most room = λ ts p rest.
+    ((p.1 ≡ 0) × (declare ts p.0 rest ⊎ type_def most ts p.0 rest ⊎ procedure most room ts p.0 rest))
+    ⊎ ((x : Stmt) × stmt most (suc room) levels.Module lines.Free ts x rest × (p ≡ (item.Stmt x, words_before ts rest)))
 
 -- Items of a text, each with an end, which the text's end is, too; the number is what they add to the main module's tokens.
-pub data Items : List Token → List Item → ℕ → Type 0 where
-  none : Items [] [] 0
-  blank : (ts : List Token) (all : List Item) (n : ℕ) → sees_sep lines.Free ts ≡ true → Items (next ts) all n → Items ts all n
-  last : (ts : List Token) (p : Item × ℕ) → one_item ts p [] → Items ts (p.0 ∷ []) p.1
-  some : (ts between : List Token) (p : Item × ℕ) (all : List Item) (n : ℕ) → one_item ts p between → sees_sep lines.Free between ≡ true
-      → Items (next between) all n → Items ts (p.0 ∷ all) (p.1 + n)
+pub data Items (most room : ℕ) : List Token → List Item → ℕ → Type 0 where
+  none : Items most room [] [] 0
+  blank : (ts : List Token) (all : List Item) (n : ℕ) → sees_sep lines.Free ts ≡ true → Items most room (next ts) all n → Items most room ts all n
+  last : (ts : List Token) (p : Item × ℕ) → one_item most room ts p [] → Items most room ts (p.0 ∷ []) p.1
+  some : (ts between : List Token) (p : Item × ℕ) (all : List Item) (n : ℕ) → one_item most room ts p between → sees_sep lines.Free between ≡ true
+      → Items most room (next between) all n → Items most room ts (p.0 ∷ all) (p.1 + n)
 
--- A list of tokens is a text, with its tree.
+-- A list of tokens is a text, with its tree: expressions are at most so deep, and statements in procedures.
+abbrev pub IsTextWithin : ℕ → ℕ → List Token → ℕ → Tree → Type 0
+IsTextWithin most room ts last_line tree = Items most room ts tree.items tree.tokens × (tree.last_line ≡ last_line)
+
+-- Each expression, statement and procedure is at most 200 deep; a procedure is one deeper than its statements.
 abbrev pub IsText : List Token → ℕ → Tree → Type 0
-IsText ts last_line tree = Items ts tree.items tree.tokens × (tree.last_line ≡ last_line)
+IsText ts last_line tree = IsTextWithin 200 199 ts last_line tree

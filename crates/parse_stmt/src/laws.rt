@@ -1,10 +1,12 @@
 //! What the reading of a text has to do with its grammar.
-ghost use Rattle.std.specs.Prelude.{◌≡◌, List, ℕ, Ok};
+ghost use Rattle.std.specs.Prelude.{◌≡◌, ℕ, Ok, Err};
 ghost use Rattle.fb_lexer.specs.TokenList.{TokenList};
-ghost use Rattle.fb_lexer.specs.declared.token.Token.{Token};
 ghost use Rattle.fb_ast.specs.declared.tree.Tree.{Tree};
 ghost use Rattle.parse_stmt.specs.Module.{tree_of};
 ghost use Rattle.parse_stmt.specs.Texts.{IsText};
+ghost use Rattle.parse_stmt.specs.Faults.{FirstAt};
+ghost use Rattle.fb_base.specs.declared.fault.Fault.{Fault};
+ghost use Rattle.parse_expr.specs.declared.stop.ParseErr.TheVariants as errors;
 
 /// What is read is a text by the grammar, each expression, statement and procedure at most 200 deep.
 pub fn texts_read()
@@ -19,4 +21,10 @@ pub fn texts_found()
 /// Tokens are one text at most.
 pub fn one_text()
     ensures { (tokens : TokenList) (one other : Tree) → IsText tokens.items tokens.last_line one → IsText tokens.items tokens.last_line other → one ≡ other }
+{}
+
+/// A fault stands at the first token up to which no text agrees with the tokens, or at the last one where they end too
+/// early, and then it is Expected. Not even a deeper text goes on there, unless the depth is what is wrong.
+pub fn fault_places()
+    ensures { (tokens : TokenList) (fault : Fault) → tree_of tokens ≡ Err (errors.Fault fault) → FirstAt tokens.items fault }
 {}
