@@ -3,6 +3,7 @@
 
 mod kinds;
 mod laws;
+mod steps;
 
 pub use kinds::{
     Closer, Found, Lead, Level, Line, ProcedureWord, Spot, assignment_of, comparison_of,
