@@ -1,9 +1,12 @@
 //! Statements, procedures, Types and whole texts: their grammar, and how they are read.
 #![tactic(auto)]
 
+mod cases;
 mod kinds;
 mod laws;
+mod simple;
 mod steps;
+mod variables;
 
 pub use kinds::{
     Closer, Found, Lead, Level, Line, ProcedureWord, Spot, assignment_of, comparison_of,
