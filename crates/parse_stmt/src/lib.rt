@@ -2,8 +2,11 @@
 #![tactic(auto)]
 
 mod cases;
+mod ifs;
 mod kinds;
 mod laws;
+mod looped;
+mod nest;
 mod simple;
 mod steps;
 mod variables;
