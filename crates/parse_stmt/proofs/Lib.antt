@@ -1,3 +1,4 @@
+mod Loops
 mod Exact
 mod Smallest
 mod Lists

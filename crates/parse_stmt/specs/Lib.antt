@@ -3,6 +3,7 @@ pub mod Steps
 pub mod Variables
 pub mod Simple
 pub mod Blocks
+pub mod Nests
 pub mod Procedures
 pub mod Module
 pub mod Phrases

@@ -1,8 +1,15 @@
 //! Statements, procedures, Types and whole texts: their grammar, and how they are read.
 #![tactic(auto)]
 
+mod cases;
+mod ifs;
 mod kinds;
 mod laws;
+mod looped;
+mod nest;
+mod simple;
+mod steps;
+mod variables;
 
 pub use kinds::{
     Closer, Found, Lead, Level, Line, ProcedureWord, Spot, assignment_of, comparison_of,

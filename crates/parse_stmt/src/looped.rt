@@ -1,0 +1,156 @@
+//! While, Select and Scope, and the body of a For.
+ghost use Rattle.std.specs.Prelude.{◌≡◌};
+ghost use Rattle.parse_expr.specs.Reading.{Reads};
+ghost use Rattle.parse_stmt.specs.Steps.{Turns};
+ghost use Rattle.parse_stmt.specs.Blocks as spec;
+ghost use Rattle.parse_stmt.specs.Nests.{Nests};
+
+use crate::cases::cases_;
+use crate::kinds::{Closer, Level, Line, Spot};
+use crate::nest::{Nest, end_of};
+use crate::steps::{any_name, place_at, sep, whole};
+use fb_ast::{Block, CaseBranch, Name, Stmt};
+use fb_base::Span;
+use fb_lexer::Word;
+use parse_expr::{Cursor, Stop};
+use sqlite_items::Items;
+use std::alloc::Global;
+
+impl<F: Fn(Global, &mut Cursor<'_>, usize, Spot) -> Result<Stmt, Stop>> Nest<F> {
+    /// The body of a For, and the name behind Next.
+    #[tactic(auto, unfolding(crate::specs::Blocks::for_tail))]
+    pub fn for_tail(
+        &self,
+        cursor: &mut Cursor<'_>,
+        level: Level,
+        line: Line,
+    ) -> Result<(Block, Option<Name>), Stop>
+        requires { Nests self.now.room (F.pre self.now.inner) (F.post self.now.inner) }
+        ensures { Reads (spec.for_tail (spec.stmt self.now.room) self.now.room level line cursor.old) result cursor.new }
+    {
+        sep(cursor, line)?;
+        let body = self.body(cursor, level, line, Closer::Next)?;
+        cursor.take();
+        let last = any_name(self.alloc, cursor)?;
+        Ok((body, last))
+    }
+
+    /// While, which comes next (FreeBASIC Manual, While...Wend).
+    #[tactic(auto, unfolding(crate::specs::Blocks::while_))]
+    pub fn while_(
+        &self,
+        cursor: &mut Cursor<'_>,
+        at: Span,
+        level: Level,
+        line: Line,
+    ) -> Result<Stmt, Stop>
+        requires { Nests self.now.room (F.pre self.now.inner) (F.post self.now.inner) }
+        ensures { Reads (spec.while_ (spec.stmt self.now.room) self.now.room at level line cursor.old) result cursor.new }
+    {
+        cursor.take();
+        let condition = whole(self.alloc, cursor)?;
+        sep(cursor, line)?;
+        let body = self.body(cursor, level, line, Closer::Wend)?;
+        cursor.take();
+        Ok(Stmt::While(at, condition, body))
+    }
+
+    // Behind Case.
+    #[tactic(auto, unfolding(crate::specs::Blocks::case_branch))]
+    fn case_branch(
+        &self,
+        cursor: &mut Cursor<'_>,
+        at: Span,
+        level: Level,
+        line: Line,
+    ) -> Result<CaseBranch, Stop>
+        requires { Nests self.now.room (F.pre self.now.inner) (F.post self.now.inner) }
+        ensures { Reads (spec.case_branch (spec.stmt self.now.room) self.now.room at level line cursor.old) result cursor.new }
+    {
+        let cases = cases_(self.alloc, cursor)?;
+        sep(cursor, line)?;
+        let body = self.body(cursor, level, line, Closer::Cases)?;
+        Ok(CaseBranch { at, cases, body })
+    }
+
+    #[tactic(auto, unfolding(crate::specs::Blocks::select_turn))]
+    fn select_turn(
+        &self,
+        cursor: &mut Cursor<'_>,
+        level: Level,
+        line: Line,
+        found: &mut Items<CaseBranch>,
+    ) -> Result<bool, Stop>
+        requires { Nests self.now.room (F.pre self.now.inner) (F.post self.now.inner) }
+        ensures { Turns (spec.select_turn (spec.stmt self.now.room) self.now.room level line found.old cursor.old) found.new result cursor.new }
+    {
+        if cursor.sees_word(Word::KwCase) {
+            let at = place_at(cursor);
+            cursor.take();
+            let one = self.case_branch(cursor, at, level, line)?;
+            found.push(one)?;
+            return Ok(true);
+        }
+        Ok(false)
+    }
+
+    #[tactic(auto, unfolding(crate::specs::Blocks::case_branches))]
+    fn case_branches(
+        &self,
+        cursor: &mut Cursor<'_>,
+        level: Level,
+        line: Line,
+    ) -> Result<Items<CaseBranch>, Stop>
+        requires { Nests self.now.room (F.pre self.now.inner) (F.post self.now.inner) }
+        ensures { Reads (spec.case_branches (spec.stmt self.now.room) self.now.room level line cursor.old) result cursor.new }
+    {
+        let mut found = Items::new(self.alloc);
+        for _turn in 0..cursor.left() + 1 {
+            let more = self.select_turn(cursor, level, line, &mut found)?;
+            if !more {
+                return Ok(found);
+            }
+        }
+        Err(cursor.refuse())
+    }
+
+    /// Select Case, where Select comes next (FreeBASIC Manual, Select Case).
+    #[tactic(auto, unfolding(crate::specs::Blocks::select))]
+    pub fn select(
+        &self,
+        cursor: &mut Cursor<'_>,
+        at: Span,
+        level: Level,
+        line: Line,
+    ) -> Result<Stmt, Stop>
+        requires { Nests self.now.room (F.pre self.now.inner) (F.post self.now.inner) }
+        ensures { Reads (spec.select (spec.stmt self.now.room) self.now.room at level line cursor.old) result cursor.new }
+    {
+        cursor.take();
+        cursor.expect_word(Word::KwCase)?;
+        let value = whole(self.alloc, cursor)?;
+        sep(cursor, line)?;
+        let all = self.case_branches(cursor, level, line)?;
+        let end = end_of(cursor, Word::KwSelect)?;
+        Ok(Stmt::Select(at, value, all, end))
+    }
+
+    /// Scope, which comes next (FreeBASIC Manual, Scope).
+    #[tactic(auto, unfolding(crate::specs::Blocks::scope))]
+    pub fn scope(
+        &self,
+        cursor: &mut Cursor<'_>,
+        at: Span,
+        level: Level,
+        line: Line,
+    ) -> Result<Stmt, Stop>
+        requires { Nests self.now.room (F.pre self.now.inner) (F.post self.now.inner) }
+        ensures { Reads (spec.scope (spec.stmt self.now.room) self.now.room at level line cursor.old) result cursor.new }
+    {
+        cursor.take();
+        sep(cursor, line)?;
+        let body = self.body(cursor, level, line, Closer::Scope)?;
+        end_of(cursor, Word::KwScope)?;
+        Ok(Stmt::Scope(at, body))
+    }
+}
