@@ -4,6 +4,7 @@
 mod cases;
 mod kinds;
 mod laws;
+mod procedures;
 mod simple;
 mod steps;
 mod variables;
