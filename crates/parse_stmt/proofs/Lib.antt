@@ -15,3 +15,4 @@ mod Heads
 mod Procs
 mod Types
 mod Whole
+mod Fields

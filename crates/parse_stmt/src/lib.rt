@@ -4,6 +4,7 @@
 mod cases;
 mod kinds;
 mod laws;
+mod members;
 mod procedures;
 mod simple;
 mod steps;
