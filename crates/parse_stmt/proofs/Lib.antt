@@ -34,3 +34,4 @@ mod GrowTexts
 mod AtEnds
 mod EndTexts
 mod LateFaults
+mod Fields

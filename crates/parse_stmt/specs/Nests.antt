@@ -14,4 +14,4 @@ pub record Nests (room : ℕ) (pre : Global → MutBor (List Token) → ℕ → 
   pub small : room ≤ 199
   pub callable : (alloc : Global) (old : MutBor (List Token)) (spot : Spot) → pre alloc old room spot
   pub reads : (alloc : Global) (old new : MutBor (List Token)) (spot : Spot) (r : Result Stmt Stop) → post alloc old room spot r new
-      → Reads (stmt room spot old.now) r new.now
+      → Reads (stmt 200 room spot old.now) r new.now

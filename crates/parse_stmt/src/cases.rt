@@ -28,7 +28,7 @@ fn test_by(
     at: Span,
     word: Option<Until>,
 ) -> Result<Option<Test>, Stop>
-    ensures { Reads (spec.test_by at word cursor.old) result cursor.new }
+    ensures { Reads (spec.test_by 200 at word cursor.old) result cursor.new }
 {
     match word {
         Some(word) => {
@@ -47,7 +47,7 @@ fn test_by(
 /// While or Until and a condition, if they come next.
 #[tactic(auto, unfolding(crate::specs::Blocks::any_test))]
 pub fn any_test(alloc: Global, cursor: &mut Cursor<'_>) -> Result<Option<Test>, Stop>
-    ensures { Reads (spec.any_test cursor.old) result cursor.new }
+    ensures { Reads (spec.any_test 200 cursor.old) result cursor.new }
 {
     test_by(alloc, cursor, place_at(cursor), until_at(cursor))
 }
@@ -55,7 +55,7 @@ pub fn any_test(alloc: Global, cursor: &mut Cursor<'_>) -> Result<Option<Test>, 
 /// The test behind Loop, if it comes next and none stands behind Do.
 #[tactic(auto, unfolding(crate::specs::Blocks::last_test))]
 pub fn last_test(alloc: Global, cursor: &mut Cursor<'_>, tested: bool) -> Result<Option<Test>, Stop>
-    ensures { Reads (spec.last_test tested cursor.old) result cursor.new }
+    ensures { Reads (spec.last_test 200 tested cursor.old) result cursor.new }
 {
     if tested {
         return Ok(None);
@@ -75,7 +75,7 @@ fn comparison_at(cursor: &Cursor<'_>) -> Option<Comparison>
 // Behind Is.
 #[tactic(auto, unfolding(crate::specs::Blocks::is_case))]
 fn is_case(alloc: Global, cursor: &mut Cursor<'_>, at: Span) -> Result<Case, Stop>
-    ensures { Reads (spec.is_case at cursor.old) result cursor.new }
+    ensures { Reads (spec.is_case 200 at cursor.old) result cursor.new }
 {
     match comparison_at(cursor) {
         Some(which) => {
@@ -90,7 +90,7 @@ fn is_case(alloc: Global, cursor: &mut Cursor<'_>, at: Span) -> Result<Case, Sto
 // Behind the first expression.
 #[tactic(auto, unfolding(crate::specs::Blocks::case_from))]
 fn case_from(alloc: Global, cursor: &mut Cursor<'_>, low: Expr) -> Result<Case, Stop>
-    ensures { Reads (spec.case_from low cursor.old) result cursor.new }
+    ensures { Reads (spec.case_from 200 low cursor.old) result cursor.new }
 {
     if cursor.sees_word(Word::KwTo) {
         cursor.take();
@@ -102,7 +102,7 @@ fn case_from(alloc: Global, cursor: &mut Cursor<'_>, low: Expr) -> Result<Case, 
 
 #[tactic(auto, unfolding(crate::specs::Blocks::one_case))]
 fn one_case(alloc: Global, cursor: &mut Cursor<'_>) -> Result<Case, Stop>
-    ensures { Reads (spec.one_case cursor.old) result cursor.new }
+    ensures { Reads (spec.one_case 200 cursor.old) result cursor.new }
 {
     if cursor.sees_word(Word::KwIs) {
         let at = place_at(cursor);
@@ -115,7 +115,7 @@ fn one_case(alloc: Global, cursor: &mut Cursor<'_>) -> Result<Case, Stop>
 
 #[tactic(auto, unfolding(crate::specs::Blocks::case_turn))]
 fn case_turn(alloc: Global, cursor: &mut Cursor<'_>, found: &mut Items<Case>) -> Result<bool, Stop>
-    ensures { Turns (spec.case_turn found.old cursor.old) found.new result cursor.new }
+    ensures { Turns (spec.case_turn 200 found.old cursor.old) found.new result cursor.new }
 {
     let one = one_case(alloc, cursor)?;
     comma_behind(cursor, found, one)
@@ -123,7 +123,7 @@ fn case_turn(alloc: Global, cursor: &mut Cursor<'_>, found: &mut Items<Case>) ->
 
 #[tactic(auto, unfolding(crate::specs::Blocks::case_list))]
 fn case_list(alloc: Global, cursor: &mut Cursor<'_>) -> Result<Items<Case>, Stop>
-    ensures { Reads (spec.case_list cursor.old) result cursor.new }
+    ensures { Reads (spec.case_list 200 cursor.old) result cursor.new }
 {
     let mut found = Items::new(alloc);
     for _turn in 0..cursor.left() + 1 {
@@ -138,7 +138,7 @@ fn case_list(alloc: Global, cursor: &mut Cursor<'_>) -> Result<Items<Case>, Stop
 /// What a branch of a Select is chosen by, behind Case (FreeBASIC Manual, Select Case).
 #[tactic(auto, unfolding(crate::specs::Blocks::cases_))]
 pub fn cases_(alloc: Global, cursor: &mut Cursor<'_>) -> Result<Cases, Stop>
-    ensures { Reads (spec.cases_ cursor.old) result cursor.new }
+    ensures { Reads (spec.cases_ 200 cursor.old) result cursor.new }
 {
     if cursor.sees_word(Word::KwElse) {
         cursor.take();

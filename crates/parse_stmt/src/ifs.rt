@@ -26,7 +26,7 @@ impl<F: Fn(Global, &mut Cursor<'_>, usize, Spot) -> Result<Stmt, Stop>> Nest<F> 
         line: Line,
     ) -> Result<Branch, Stop>
         requires { Nests self.now.room (F.pre self.now.inner) (F.post self.now.inner) }
-        ensures { Reads (spec.branch (spec.stmt self.now.room) self.now.room at condition level line cursor.old) result cursor.new }
+        ensures { Reads (spec.branch 200 (spec.stmt 200 self.now.room) self.now.room at condition level line cursor.old) result cursor.new }
     {
         let body = self.body(cursor, level, line, Closer::Branches)?;
         Ok(Branch {
@@ -46,7 +46,7 @@ impl<F: Fn(Global, &mut Cursor<'_>, usize, Spot) -> Result<Stmt, Stop>> Nest<F> 
         line: Line,
     ) -> Result<Branch, Stop>
         requires { Nests self.now.room (F.pre self.now.inner) (F.post self.now.inner) }
-        ensures { Reads (spec.else_if (spec.stmt self.now.room) self.now.room at level line cursor.old) result cursor.new }
+        ensures { Reads (spec.else_if 200 (spec.stmt 200 self.now.room) self.now.room at level line cursor.old) result cursor.new }
     {
         let condition = whole(self.alloc, cursor)?;
         cursor.expect_word(Word::KwThen)?;
@@ -63,7 +63,7 @@ impl<F: Fn(Global, &mut Cursor<'_>, usize, Spot) -> Result<Stmt, Stop>> Nest<F> 
         found: &mut Items<Branch>,
     ) -> Result<bool, Stop>
         requires { Nests self.now.room (F.pre self.now.inner) (F.post self.now.inner) }
-        ensures { Turns (spec.branch_turn (spec.stmt self.now.room) self.now.room level line found.old cursor.old) found.new result cursor.new }
+        ensures { Turns (spec.branch_turn 200 (spec.stmt 200 self.now.room) self.now.room level line found.old cursor.old) found.new result cursor.new }
     {
         if cursor.sees_word(Word::KwElseIf) {
             let at = place_at(cursor);
@@ -84,7 +84,7 @@ impl<F: Fn(Global, &mut Cursor<'_>, usize, Spot) -> Result<Stmt, Stop>> Nest<F> 
         one: Branch,
     ) -> Result<Items<Branch>, Stop>
         requires { Nests self.now.room (F.pre self.now.inner) (F.post self.now.inner) }
-        ensures { Reads (spec.branches (spec.stmt self.now.room) self.now.room level line one cursor.old) result cursor.new }
+        ensures { Reads (spec.branches 200 (spec.stmt 200 self.now.room) self.now.room level line one cursor.old) result cursor.new }
     {
         let mut found = Items::new(self.alloc);
         found.push(one)?;
@@ -101,7 +101,7 @@ impl<F: Fn(Global, &mut Cursor<'_>, usize, Spot) -> Result<Stmt, Stop>> Nest<F> 
     #[tactic(auto, unfolding(crate::specs::Blocks::else_body))]
     fn else_body(&self, cursor: &mut Cursor<'_>, level: Level, line: Line) -> Result<Block, Stop>
         requires { Nests self.now.room (F.pre self.now.inner) (F.post self.now.inner) }
-        ensures { Reads (spec.else_body (spec.stmt self.now.room) self.now.room level line cursor.old) result cursor.new }
+        ensures { Reads (spec.else_body 200 (spec.stmt 200 self.now.room) self.now.room level line cursor.old) result cursor.new }
     {
         sep(cursor, line)?;
         self.body(cursor, level, line, Closer::Else)
@@ -115,7 +115,7 @@ impl<F: Fn(Global, &mut Cursor<'_>, usize, Spot) -> Result<Stmt, Stop>> Nest<F> 
         line: Line,
     ) -> Result<Option<(Span, Block)>, Stop>
         requires { Nests self.now.room (F.pre self.now.inner) (F.post self.now.inner) }
-        ensures { Reads (spec.any_else (spec.stmt self.now.room) self.now.room level line cursor.old) result cursor.new }
+        ensures { Reads (spec.any_else 200 (spec.stmt 200 self.now.room) self.now.room level line cursor.old) result cursor.new }
     {
         if cursor.sees_word(Word::KwElse) {
             let at = place_at(cursor);
@@ -137,7 +137,7 @@ impl<F: Fn(Global, &mut Cursor<'_>, usize, Spot) -> Result<Stmt, Stop>> Nest<F> 
         line: Line,
     ) -> Result<Stmt, Stop>
         requires { Nests self.now.room (F.pre self.now.inner) (F.post self.now.inner) }
-        ensures { Reads (spec.if_block (spec.stmt self.now.room) self.now.room at condition level line cursor.old) result cursor.new }
+        ensures { Reads (spec.if_block 200 (spec.stmt 200 self.now.room) self.now.room at condition level line cursor.old) result cursor.new }
     {
         let one = self.branch(cursor, at, condition, level, line)?;
         let all = self.branches(cursor, level, line, one)?;

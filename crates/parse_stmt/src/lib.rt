@@ -7,6 +7,8 @@ mod kinds;
 mod laws;
 mod looped;
 mod nest;
+mod members;
+mod procedures;
 mod simple;
 mod steps;
 mod variables;

@@ -26,7 +26,7 @@ impl<F: Fn(Global, &mut Cursor<'_>, usize, Spot) -> Result<Stmt, Stop>> Nest<F> 
         line: Line,
     ) -> Result<(Block, Option<Name>), Stop>
         requires { Nests self.now.room (F.pre self.now.inner) (F.post self.now.inner) }
-        ensures { Reads (spec.for_tail (spec.stmt self.now.room) self.now.room level line cursor.old) result cursor.new }
+        ensures { Reads (spec.for_tail 200 (spec.stmt 200 self.now.room) self.now.room level line cursor.old) result cursor.new }
     {
         sep(cursor, line)?;
         let body = self.body(cursor, level, line, Closer::Next)?;
@@ -45,7 +45,7 @@ impl<F: Fn(Global, &mut Cursor<'_>, usize, Spot) -> Result<Stmt, Stop>> Nest<F> 
         line: Line,
     ) -> Result<Stmt, Stop>
         requires { Nests self.now.room (F.pre self.now.inner) (F.post self.now.inner) }
-        ensures { Reads (spec.while_ (spec.stmt self.now.room) self.now.room at level line cursor.old) result cursor.new }
+        ensures { Reads (spec.while_ 200 (spec.stmt 200 self.now.room) self.now.room at level line cursor.old) result cursor.new }
     {
         cursor.take();
         let condition = whole(self.alloc, cursor)?;
@@ -65,7 +65,7 @@ impl<F: Fn(Global, &mut Cursor<'_>, usize, Spot) -> Result<Stmt, Stop>> Nest<F> 
         line: Line,
     ) -> Result<CaseBranch, Stop>
         requires { Nests self.now.room (F.pre self.now.inner) (F.post self.now.inner) }
-        ensures { Reads (spec.case_branch (spec.stmt self.now.room) self.now.room at level line cursor.old) result cursor.new }
+        ensures { Reads (spec.case_branch 200 (spec.stmt 200 self.now.room) self.now.room at level line cursor.old) result cursor.new }
     {
         let cases = cases_(self.alloc, cursor)?;
         sep(cursor, line)?;
@@ -82,7 +82,7 @@ impl<F: Fn(Global, &mut Cursor<'_>, usize, Spot) -> Result<Stmt, Stop>> Nest<F> 
         found: &mut Items<CaseBranch>,
     ) -> Result<bool, Stop>
         requires { Nests self.now.room (F.pre self.now.inner) (F.post self.now.inner) }
-        ensures { Turns (spec.select_turn (spec.stmt self.now.room) self.now.room level line found.old cursor.old) found.new result cursor.new }
+        ensures { Turns (spec.select_turn 200 (spec.stmt 200 self.now.room) self.now.room level line found.old cursor.old) found.new result cursor.new }
     {
         if cursor.sees_word(Word::KwCase) {
             let at = place_at(cursor);
@@ -102,7 +102,7 @@ impl<F: Fn(Global, &mut Cursor<'_>, usize, Spot) -> Result<Stmt, Stop>> Nest<F> 
         line: Line,
     ) -> Result<Items<CaseBranch>, Stop>
         requires { Nests self.now.room (F.pre self.now.inner) (F.post self.now.inner) }
-        ensures { Reads (spec.case_branches (spec.stmt self.now.room) self.now.room level line cursor.old) result cursor.new }
+        ensures { Reads (spec.case_branches 200 (spec.stmt 200 self.now.room) self.now.room level line cursor.old) result cursor.new }
     {
         let mut found = Items::new(self.alloc);
         for _turn in 0..cursor.left() + 1 {
@@ -124,7 +124,7 @@ impl<F: Fn(Global, &mut Cursor<'_>, usize, Spot) -> Result<Stmt, Stop>> Nest<F> 
         line: Line,
     ) -> Result<Stmt, Stop>
         requires { Nests self.now.room (F.pre self.now.inner) (F.post self.now.inner) }
-        ensures { Reads (spec.select (spec.stmt self.now.room) self.now.room at level line cursor.old) result cursor.new }
+        ensures { Reads (spec.select 200 (spec.stmt 200 self.now.room) self.now.room at level line cursor.old) result cursor.new }
     {
         cursor.take();
         cursor.expect_word(Word::KwCase)?;
@@ -145,7 +145,7 @@ impl<F: Fn(Global, &mut Cursor<'_>, usize, Spot) -> Result<Stmt, Stop>> Nest<F> 
         line: Line,
     ) -> Result<Stmt, Stop>
         requires { Nests self.now.room (F.pre self.now.inner) (F.post self.now.inner) }
-        ensures { Reads (spec.scope (spec.stmt self.now.room) self.now.room at level line cursor.old) result cursor.new }
+        ensures { Reads (spec.scope 200 (spec.stmt 200 self.now.room) self.now.room at level line cursor.old) result cursor.new }
     {
         cursor.take();
         sep(cursor, line)?;

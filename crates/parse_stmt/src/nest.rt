@@ -98,7 +98,7 @@ impl<F: Fn(Global, &mut Cursor<'_>, usize, Spot) -> Result<Stmt, Stop>> Nest<F> 
     /// A statement inside.
     pub fn inner(&self, cursor: &mut Cursor<'_>, spot: Spot) -> Result<Stmt, Stop>
         requires { Nests self.now.room (F.pre self.now.inner) (F.post self.now.inner) }
-        ensures { Reads (spec.stmt self.now.room spot cursor.old) result cursor.new }
+        ensures { Reads (spec.stmt 200 self.now.room spot cursor.old) result cursor.new }
     {
         (self.inner)(self.alloc, cursor, self.room, spot)
     }
@@ -106,7 +106,7 @@ impl<F: Fn(Global, &mut Cursor<'_>, usize, Spot) -> Result<Stmt, Stop>> Nest<F> 
     // Whether End comes next, which can't begin a statement, since none can be deep enough.
     #[tactic(auto, unfolding(crate::specs::Blocks::end_is_deep))]
     fn end_is_deep(&self, cursor: &Cursor<'_>, closer: Closer) -> bool
-        ensures { result ≡ spec.end_is_deep (spec.stmt self.now.room) self.now.room closer cursor.now }
+        ensures { result ≡ spec.end_is_deep 200 (spec.stmt 200 self.now.room) self.now.room closer cursor.now }
     {
         if self.room == 0 {
             if ends_with_end(closer) {
@@ -126,7 +126,7 @@ impl<F: Fn(Global, &mut Cursor<'_>, usize, Spot) -> Result<Stmt, Stop>> Nest<F> 
         closer: Closer,
     ) -> Result<Stmt, Stop>
         requires { Nests self.now.room (F.pre self.now.inner) (F.post self.now.inner) }
-        ensures { Reads (spec.block_stmt (spec.stmt self.now.room) self.now.room level line closer cursor.old) result cursor.new }
+        ensures { Reads (spec.block_stmt 200 (spec.stmt 200 self.now.room) self.now.room level line closer cursor.old) result cursor.new }
     {
         if self.end_is_deep(cursor, closer) {
             return Err(deep_end(cursor, line));
@@ -144,7 +144,7 @@ impl<F: Fn(Global, &mut Cursor<'_>, usize, Spot) -> Result<Stmt, Stop>> Nest<F> 
         one: Stmt,
         found: &mut Items<Stmt>,
     ) -> Result<bool, Stop>
-        ensures { Turns (spec.ended (spec.stmt self.now.room) self.now.room line found.old one cursor.old) found.new result cursor.new }
+        ensures { Turns (spec.ended 200 (spec.stmt 200 self.now.room) self.now.room line found.old one cursor.old) found.new result cursor.new }
     {
         sep(cursor, line)?;
         found.push(one)?;
@@ -161,7 +161,7 @@ impl<F: Fn(Global, &mut Cursor<'_>, usize, Spot) -> Result<Stmt, Stop>> Nest<F> 
         found: &mut Items<Stmt>,
     ) -> Result<bool, Stop>
         requires { Nests self.now.room (F.pre self.now.inner) (F.post self.now.inner) }
-        ensures { Turns (spec.block_turn (spec.stmt self.now.room) self.now.room level line closer found.old cursor.old) found.new result cursor.new }
+        ensures { Turns (spec.block_turn 200 (spec.stmt 200 self.now.room) self.now.room level line closer found.old cursor.old) found.new result cursor.new }
     {
         if sees_sep(cursor, line) {
             cursor.take();
@@ -183,7 +183,7 @@ impl<F: Fn(Global, &mut Cursor<'_>, usize, Spot) -> Result<Stmt, Stop>> Nest<F> 
         closer: Closer,
     ) -> Result<Items<Stmt>, Stop>
         requires { Nests self.now.room (F.pre self.now.inner) (F.post self.now.inner) }
-        ensures { Reads (spec.block (spec.stmt self.now.room) self.now.room level line closer cursor.old) result cursor.new }
+        ensures { Reads (spec.block 200 (spec.stmt 200 self.now.room) self.now.room level line closer cursor.old) result cursor.new }
     {
         let mut found = Items::new(self.alloc);
         for _turn in 0..cursor.left() + 1 {
@@ -205,7 +205,7 @@ impl<F: Fn(Global, &mut Cursor<'_>, usize, Spot) -> Result<Stmt, Stop>> Nest<F> 
         closer: Closer,
     ) -> Result<Block, Stop>
         requires { Nests self.now.room (F.pre self.now.inner) (F.post self.now.inner) }
-        ensures { Reads (spec.body (spec.stmt self.now.room) self.now.room level line closer cursor.old) result cursor.new }
+        ensures { Reads (spec.body 200 (spec.stmt 200 self.now.room) self.now.room level line closer cursor.old) result cursor.new }
     {
         let stmts = self.block(cursor, level, line, closer)?;
         let end = place_at(cursor);

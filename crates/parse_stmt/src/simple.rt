@@ -43,7 +43,7 @@ fn assign(
     left: Expr,
     mark: (Assignment, Span),
 ) -> Result<Stmt, Stop>
-    ensures { Reads (spec.assign at left mark.0 mark.1 cursor.old) result cursor.new }
+    ensures { Reads (spec.assign 200 at left mark.0 mark.1 cursor.old) result cursor.new }
 {
     cursor.take();
     let value = whole(alloc, cursor)?;
@@ -54,7 +54,7 @@ fn assign(
 // What is no call has to be assigned to.
 #[tactic(auto, unfolding(crate::specs::Simple::must_assign))]
 fn must_assign(alloc: Global, cursor: &mut Cursor<'_>, at: Span, left: Expr) -> Result<Stmt, Stop>
-    ensures { Reads (spec.must_assign at left cursor.old) result cursor.new }
+    ensures { Reads (spec.must_assign 200 at left cursor.old) result cursor.new }
 {
     match assignment_at(cursor) {
         Some(mark) => assign(alloc, cursor, at, left, mark),
@@ -64,7 +64,7 @@ fn must_assign(alloc: Global, cursor: &mut Cursor<'_>, at: Span, left: Expr) -> 
 
 #[tactic(auto, unfolding(crate::specs::Simple::may_assign))]
 fn may_assign(alloc: Global, cursor: &mut Cursor<'_>, at: Span, left: Expr) -> Result<Stmt, Stop>
-    ensures { Reads (spec.may_assign at left cursor.old) result cursor.new }
+    ensures { Reads (spec.may_assign 200 at left cursor.old) result cursor.new }
 {
     match assignment_at(cursor) {
         Some(mark) => assign(alloc, cursor, at, left, mark),
@@ -74,7 +74,7 @@ fn may_assign(alloc: Global, cursor: &mut Cursor<'_>, at: Span, left: Expr) -> R
 
 #[tactic(auto, unfolding(crate::specs::Simple::value_turn))]
 fn value_turn(alloc: Global, cursor: &mut Cursor<'_>, found: &mut Items<Expr>) -> Result<bool, Stop>
-    ensures { Turns (spec.value_turn found.old cursor.old) found.new result cursor.new }
+    ensures { Turns (spec.value_turn 200 found.old cursor.old) found.new result cursor.new }
 {
     let one = whole(alloc, cursor)?;
     comma_behind(cursor, found, one)
@@ -82,7 +82,7 @@ fn value_turn(alloc: Global, cursor: &mut Cursor<'_>, found: &mut Items<Expr>) -
 
 #[tactic(auto, unfolding(crate::specs::Simple::values))]
 fn values(alloc: Global, cursor: &mut Cursor<'_>) -> Result<Items<Expr>, Stop>
-    ensures { Reads (spec.values cursor.old) result cursor.new }
+    ensures { Reads (spec.values 200 cursor.old) result cursor.new }
 {
     let mut found = Items::new(alloc);
     for _turn in 0..cursor.left() + 1 {
@@ -97,7 +97,7 @@ fn values(alloc: Global, cursor: &mut Cursor<'_>) -> Result<Items<Expr>, Stop>
 // Arguments without parentheses, perhaps none.
 #[tactic(auto, unfolding(crate::specs::Simple::arguments))]
 fn arguments(alloc: Global, cursor: &mut Cursor<'_>) -> Result<Items<Expr>, Stop>
-    ensures { Reads (spec.arguments cursor.old) result cursor.new }
+    ensures { Reads (spec.arguments 200 cursor.old) result cursor.new }
 {
     if sees_value(cursor) {
         return values(alloc, cursor);
@@ -108,7 +108,7 @@ fn arguments(alloc: Global, cursor: &mut Cursor<'_>) -> Result<Items<Expr>, Stop
 
 #[tactic(auto, unfolding(crate::specs::Simple::call_name))]
 fn call_name(alloc: Global, cursor: &mut Cursor<'_>, at: Span, callee: Name) -> Result<Stmt, Stop>
-    ensures { Reads (spec.call_name at callee cursor.old) result cursor.new }
+    ensures { Reads (spec.call_name 200 at callee cursor.old) result cursor.new }
 {
     let all = arguments(alloc, cursor)?;
     Ok(Stmt::CallName(at, callee, all))
@@ -117,7 +117,7 @@ fn call_name(alloc: Global, cursor: &mut Cursor<'_>, at: Span, callee: Name) -> 
 // Behind a name with which nothing goes on.
 #[tactic(auto, unfolding(crate::specs::Simple::named))]
 fn named(alloc: Global, cursor: &mut Cursor<'_>, at: Span, found: Name) -> Result<Stmt, Stop>
-    ensures { Reads (spec.named at found cursor.old) result cursor.new }
+    ensures { Reads (spec.named 200 at found cursor.old) result cursor.new }
 {
     match assignment_at(cursor) {
         Some(mark) => assign(alloc, cursor, at, Expr::Name(found.at, found.text), mark),
@@ -136,7 +136,7 @@ fn is_call(tree: &Expr) -> bool
 
 #[tactic(auto, unfolding(crate::specs::Simple::headed))]
 fn headed(alloc: Global, cursor: &mut Cursor<'_>, at: Span, head: Expr) -> Result<Stmt, Stop>
-    ensures { Reads (spec.headed at head cursor.old) result cursor.new }
+    ensures { Reads (spec.headed 200 at head cursor.old) result cursor.new }
 {
     if is_call(&head) {
         return may_assign(alloc, cursor, at, head);
@@ -182,7 +182,7 @@ fn sees_bare(cursor: &Cursor<'_>) -> bool
 /// A statement that begins with an operand, which comes next: an assignment or a call.
 #[tactic(auto, unfolding(crate::specs::Simple::valued))]
 pub fn valued(alloc: Global, cursor: &mut Cursor<'_>, at: Span) -> Result<Stmt, Stop>
-    ensures { Reads (spec.valued at cursor.old) result cursor.new }
+    ensures { Reads (spec.valued 200 at cursor.old) result cursor.new }
 {
     if sees_bare(cursor) {
         let found = name(alloc, cursor)?;
@@ -209,7 +209,7 @@ pub fn called(
     at: Span,
     word: CallWord,
 ) -> Result<Stmt, Stop>
-    ensures { Reads (spec.called at word cursor.old) result cursor.new }
+    ensures { Reads (spec.called 200 at word cursor.old) result cursor.new }
 {
     if sees_open_behind(cursor) {
         return valued(alloc, cursor, at);
@@ -222,7 +222,7 @@ pub fn called(
 /// `Function = e`, where Function comes next.
 #[tactic(auto, unfolding(crate::specs::Simple::result_))]
 pub fn result_(alloc: Global, cursor: &mut Cursor<'_>, at: Span) -> Result<Stmt, Stop>
-    ensures { Reads (spec.result_ at cursor.old) result cursor.new }
+    ensures { Reads (spec.result_ 200 at cursor.old) result cursor.new }
 {
     cursor.take();
     cursor.expect(Mark::Equal)?;
@@ -260,7 +260,7 @@ fn print_turn(
     cursor: &mut Cursor<'_>,
     found: &mut Items<Printed>,
 ) -> Result<bool, Stop>
-    ensures { Turns (spec.print_turn found.old cursor.old) found.new result cursor.new }
+    ensures { Turns (spec.print_turn 200 found.old cursor.old) found.new result cursor.new }
 {
     if cursor.sees(Mark::Semicolon) {
         found.push(Printed::Semicolon(place_at(cursor)))?;
@@ -282,7 +282,7 @@ fn print_turn(
 
 #[tactic(auto, unfolding(crate::specs::Simple::all_printed))]
 fn all_printed(alloc: Global, cursor: &mut Cursor<'_>) -> Result<Items<Printed>, Stop>
-    ensures { Reads (spec.all_printed cursor.old) result cursor.new }
+    ensures { Reads (spec.all_printed 200 cursor.old) result cursor.new }
 {
     let mut found = Items::new(alloc);
     for _turn in 0..cursor.left() + 1 {
@@ -297,7 +297,7 @@ fn all_printed(alloc: Global, cursor: &mut Cursor<'_>) -> Result<Items<Printed>,
 /// Print, which comes next (FreeBASIC Manual, Print).
 #[tactic(auto, unfolding(crate::specs::Simple::print))]
 pub fn print(alloc: Global, cursor: &mut Cursor<'_>, at: Span) -> Result<Stmt, Stop>
-    ensures { Reads (spec.print at cursor.old) result cursor.new }
+    ensures { Reads (spec.print 200 at cursor.old) result cursor.new }
 {
     cursor.take();
     let all = all_printed(alloc, cursor)?;
@@ -307,7 +307,7 @@ pub fn print(alloc: Global, cursor: &mut Cursor<'_>, at: Span) -> Result<Stmt, S
 /// `Line Input`, where Line comes next (FreeBASIC Manual, Line Input).
 #[tactic(auto, unfolding(crate::specs::Simple::line_input))]
 pub fn line_input(alloc: Global, cursor: &mut Cursor<'_>, at: Span) -> Result<Stmt, Stop>
-    ensures { Reads (spec.line_input at cursor.old) result cursor.new }
+    ensures { Reads (spec.line_input 200 at cursor.old) result cursor.new }
 {
     cursor.take();
     cursor.expect_word(Word::KwInput)?;
@@ -366,7 +366,7 @@ pub fn continue_(cursor: &mut Cursor<'_>, at: Span) -> Result<Stmt, Stop>
 /// Return, which comes next, and a value, if one follows (FreeBASIC Manual, Return).
 #[tactic(auto, unfolding(crate::specs::Simple::return_))]
 pub fn return_(alloc: Global, cursor: &mut Cursor<'_>, at: Span) -> Result<Stmt, Stop>
-    ensures { Reads (spec.return_ at cursor.old) result cursor.new }
+    ensures { Reads (spec.return_ 200 at cursor.old) result cursor.new }
 {
     cursor.take();
     let value = any_value(alloc, cursor)?;
@@ -388,7 +388,7 @@ fn brackets(cursor: &mut Cursor<'_>) -> Result<bool, Stop>
 /// Delete, which comes next (FreeBASIC Manual, Delete).
 #[tactic(auto, unfolding(crate::specs::Simple::delete))]
 pub fn delete(alloc: Global, cursor: &mut Cursor<'_>, at: Span) -> Result<Stmt, Stop>
-    ensures { Reads (spec.delete at cursor.old) result cursor.new }
+    ensures { Reads (spec.delete 200 at cursor.old) result cursor.new }
 {
     cursor.take();
     let all = brackets(cursor)?;
@@ -399,7 +399,7 @@ pub fn delete(alloc: Global, cursor: &mut Cursor<'_>, at: Span) -> Result<Stmt, 
 /// End as a statement, which comes next, and a value, if one follows (FreeBASIC Manual, End (Statement)).
 #[tactic(auto, unfolding(crate::specs::Simple::end_))]
 pub fn end_(alloc: Global, cursor: &mut Cursor<'_>, at: Span) -> Result<Stmt, Stop>
-    ensures { Reads (spec.end_ at cursor.old) result cursor.new }
+    ensures { Reads (spec.end_ 200 at cursor.old) result cursor.new }
 {
     cursor.take();
     let value = any_value(alloc, cursor)?;

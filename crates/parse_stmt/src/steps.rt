@@ -151,7 +151,7 @@ pub fn sep(cursor: &mut Cursor<'_>, line: Line) -> Result<(), Stop>
 /// An expression.
 #[tactic(auto, unfolding(crate::specs::Steps::whole))]
 pub fn whole(alloc: Global, cursor: &mut Cursor<'_>) -> Result<Expr, Stop>
-    ensures { Reads (spec.whole cursor.old) result cursor.new }
+    ensures { Reads (spec.whole 200 cursor.old) result cursor.new }
 {
     let (tree, _) = expr_in(alloc, cursor, MOST, WHOLE)?;
     Ok(tree)
@@ -160,7 +160,7 @@ pub fn whole(alloc: Global, cursor: &mut Cursor<'_>) -> Result<Expr, Stop>
 /// An expression with nothing before it but `*`.
 #[tactic(auto, unfolding(crate::specs::Steps::place))]
 pub fn place(alloc: Global, cursor: &mut Cursor<'_>) -> Result<Expr, Stop>
-    ensures { Reads (spec.place cursor.old) result cursor.new }
+    ensures { Reads (spec.place 200 cursor.old) result cursor.new }
 {
     if cursor.sees(Mark::At) {
         return Err(EXPECTED);
@@ -194,7 +194,7 @@ pub fn no_value(cursor: &Cursor<'_>) -> Result<(), Stop>
 /// An expression, if one begins.
 #[tactic(auto, unfolding(crate::specs::Steps::any_value))]
 pub fn any_value(alloc: Global, cursor: &mut Cursor<'_>) -> Result<Option<Expr>, Stop>
-    ensures { Reads (spec.any_value cursor.old) result cursor.new }
+    ensures { Reads (spec.any_value 200 cursor.old) result cursor.new }
 {
     if sees_value(cursor) {
         let value = whole(alloc, cursor)?;
@@ -211,7 +211,7 @@ pub fn value_behind(
     cursor: &mut Cursor<'_>,
     word: Word,
 ) -> Result<Option<Expr>, Stop>
-    ensures { Reads (spec.value_behind word cursor.old) result cursor.new }
+    ensures { Reads (spec.value_behind 200 word cursor.old) result cursor.new }
 {
     if cursor.sees_word(word) {
         cursor.take();
@@ -224,7 +224,7 @@ pub fn value_behind(
 /// `=` and a value, if it comes next.
 #[tactic(auto, unfolding(crate::specs::Steps::initial))]
 pub fn initial(alloc: Global, cursor: &mut Cursor<'_>) -> Result<Option<Expr>, Stop>
-    ensures { Reads (spec.initial cursor.old) result cursor.new }
+    ensures { Reads (spec.initial 200 cursor.old) result cursor.new }
 {
     if cursor.sees(Mark::Equal) {
         cursor.take();

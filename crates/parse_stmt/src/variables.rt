@@ -11,7 +11,7 @@ use std::alloc::Global;
 
 #[tactic(auto, unfolding(crate::specs::Variables::bounds_from))]
 fn bounds_from(alloc: Global, cursor: &mut Cursor<'_>, one: Expr) -> Result<Bounds, Stop>
-    ensures { Reads (spec.bounds_from one cursor.old) result cursor.new }
+    ensures { Reads (spec.bounds_from 200 one cursor.old) result cursor.new }
 {
     if cursor.sees_word(Word::KwTo) {
         cursor.take();
@@ -29,7 +29,7 @@ fn bounds_from(alloc: Global, cursor: &mut Cursor<'_>, one: Expr) -> Result<Boun
 
 #[tactic(auto, unfolding(crate::specs::Variables::bounds))]
 fn bounds(alloc: Global, cursor: &mut Cursor<'_>) -> Result<Bounds, Stop>
-    ensures { Reads (spec.bounds cursor.old) result cursor.new }
+    ensures { Reads (spec.bounds 200 cursor.old) result cursor.new }
 {
     let one = whole(alloc, cursor)?;
     let all = bounds_from(alloc, cursor, one)?;
@@ -40,7 +40,7 @@ fn bounds(alloc: Global, cursor: &mut Cursor<'_>) -> Result<Bounds, Stop>
 /// The bounds of an array in parentheses, if they come next.
 #[tactic(auto, unfolding(crate::specs::Variables::any_bounds))]
 pub fn any_bounds(alloc: Global, cursor: &mut Cursor<'_>) -> Result<Option<Bounds>, Stop>
-    ensures { Reads (spec.any_bounds cursor.old) result cursor.new }
+    ensures { Reads (spec.any_bounds 200 cursor.old) result cursor.new }
 {
     if cursor.sees(Mark::Open) {
         cursor.take();
@@ -53,7 +53,7 @@ pub fn any_bounds(alloc: Global, cursor: &mut Cursor<'_>) -> Result<Option<Bound
 /// Const, which comes next (FreeBASIC Manual, Const).
 #[tactic(auto, unfolding(crate::specs::Variables::constant))]
 pub fn constant(alloc: Global, cursor: &mut Cursor<'_>, at: Span) -> Result<Stmt, Stop>
-    ensures { Reads (spec.constant at cursor.old) result cursor.new }
+    ensures { Reads (spec.constant 200 at cursor.old) result cursor.new }
 {
     cursor.take();
     let name = name(alloc, cursor)?;

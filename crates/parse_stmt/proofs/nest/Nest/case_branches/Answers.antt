@@ -7,22 +7,22 @@ use Rattle.parse_stmt.proofs.nest.Nest.case_branches.Goals as goal
 pub returns-in_err-more : goal.returns-in_err-more
 unfolding case_branches
 returns-in_err-more g c =
-    let e = one (select_turn (stmt c.args.self.now.room) c.args.self.now.room c.args.level c.args.line) _ c.loop-turn._turn c.loop-turn.found c.loop-turn.cursor c.loop-turn.invariant c.loop-turn-test.true in
+    let e = one (select_turn 200 (stmt 200 c.args.self.now.room) c.args.self.now.room c.args.level c.args.line) _ c.loop-turn._turn c.loop-turn.found c.loop-turn.cursor c.loop-turn.invariant c.loop-turn-test.true in
     first_of (search rules, grind (arith, common_steps, e))
 
 pub returns-then-not-more : goal.returns-then-not-more
 unfolding case_branches
 returns-then-not-more g c =
     let stops : c.in_ok-more.more ≡ false = first_of (cc, search rules, grind (arith, common_steps)) in
-    last (select_turn (stmt c.args.self.now.room) c.args.self.now.room c.args.level c.args.line) _ c.loop-turn._turn c.loop-turn.found c.loop-turn.cursor c.loop-turn.invariant c.select_turn.new.found c.in_ok-more.more c.select_turn.new.cursor c.loop-turn-test.true c.in_ok-more.ensures stops
+    last (select_turn 200 (stmt 200 c.args.self.now.room) c.args.self.now.room c.args.level c.args.line) _ c.loop-turn._turn c.loop-turn.found c.loop-turn.cursor c.loop-turn.invariant c.select_turn.new.found c.in_ok-more.more c.select_turn.new.cursor c.loop-turn-test.true c.in_ok-more.ensures stops
 
 pub loop-turn-preserved : goal.loop-turn-preserved
 loop-turn-preserved g c =
     let goes : c.in_ok-more.more ≡ true = first_of (cc, search rules, grind (arith, common_steps)) in
-    on (select_turn (stmt c.args.self.now.room) c.args.self.now.room c.args.level c.args.line) _ c.loop-turn._turn c.loop-turn.found c.loop-turn.cursor c.loop-turn.invariant c.select_turn.new.found c.in_ok-more.more c.select_turn.new.cursor c.loop-turn-test.true c.in_ok-more.ensures goes
+    on (select_turn 200 (stmt 200 c.args.self.now.room) c.args.self.now.room c.args.level c.args.line) _ c.loop-turn._turn c.loop-turn.found c.loop-turn.cursor c.loop-turn.invariant c.select_turn.new.found c.in_ok-more.more c.select_turn.new.cursor c.loop-turn-test.true c.in_ok-more.ensures goes
 
 pub returns : goal.returns
 unfolding case_branches
 returns g c =
-    let e = out (select_turn (stmt c.args.self.now.room) c.args.self.now.room c.args.level c.args.line) _ c.loop-turn._turn c.loop-turn.found c.loop-turn.cursor c.loop-turn.invariant c.loop-turn-test.false in
+    let e = out (select_turn 200 (stmt 200 c.args.self.now.room) c.args.self.now.room c.args.level c.args.line) _ c.loop-turn._turn c.loop-turn.found c.loop-turn.cursor c.loop-turn.invariant c.loop-turn-test.false in
     first_of (search rules, grind (arith, common_steps, e))
