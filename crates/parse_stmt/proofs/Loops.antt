@@ -1,5 +1,5 @@
 -- Loops over things one after another, beside the recursion on a count of turns that they carry out.
-use Rattle.std.proofs.Common.{◌≡◌, ℕ, zero, suc, ◌+◌, ◌-◌, ◌<◌, ◌≤◌, Bool, true, false, if◌then◌else◌, List, Ok, Err, ap, ◌∙◌, refl, arith}
+use Rattle.std.proofs.Common.{◌≡◌, ℕ, ◌+◌, ◌-◌, ◌<◌, ◌≤◌, Bool, true, false, if◌then◌else◌, List, Ok, Err, refl}
 use Rattle.fb_lexer.specs.declared.token.Token.{Token}
 use Rattle.parse_expr.specs.declared.stop.Stop.{Stop}
 use Rattle.parse_expr.specs.declared.stop.Stop.TheVariants.{Fault}

@@ -1,7 +1,6 @@
 use Rattle.std.proofs.Common.{◌≡◌, ◌∙◌, true, false, sym, ap, arith, rules}
 use Rattle.std.proofs.lemmas.Grind.{common_steps}
 use Rattle.std.proofs.lemmas.List.{drop_all}
-use Rattle.fb_ast.specs.declared.part.Member.{Member}
 use Rattle.parse_stmt.specs.Module.{is_field, has_field}
 use Rattle.parse_stmt.proofs.Fields.{field_here, field_later}
 use Rattle.parse_stmt.proofs.members.has_field.Goals as goal

@@ -1,4 +1,4 @@
-use Rattle.std.proofs.Common.{◌≡◌, ◌≢◌, true, false, arith, rules}
+use Rattle.std.proofs.Common.{◌≡◌, true, false, arith, rules}
 use Rattle.std.proofs.lemmas.Grind.{common_steps}
 use Rattle.parse_stmt.specs.Simple.{all_printed, print_turn}
 use Rattle.parse_stmt.proofs.Loops.{one, on, last, out}

@@ -1,4 +1,4 @@
-use Rattle.std.proofs.Common.{◌≡◌, ◌+◌, ◌-◌, refl, arith, rules}
+use Rattle.std.proofs.Common.{arith, rules}
 use Rattle.parse_stmt.proofs.Loops.{words_on, words_out}
 use Rattle.parse_stmt.proofs.steps.words.Goals as goal
 

@@ -1,4 +1,4 @@
-use Rattle.std.proofs.Common.{◌≡◌, ◌≢◌, true, false, arith, rules}
+use Rattle.std.proofs.Common.{◌≡◌, true, false, arith, rules}
 use Rattle.std.proofs.lemmas.Grind.{common_steps}
 use Rattle.parse_stmt.specs.Blocks.{case_branches, select_turn, stmt}
 use Rattle.parse_stmt.proofs.Loops.{one, on, last, out}
