@@ -1,5 +1,7 @@
 -- What the operators give between whole numbers: the type, and the word of 64 bits.
 use Rattle.std.specs.Prelude.{ℕ, ◌+◌, ◌-◌, ◌*◌, ◌/◌, ◌%◌, ◌^◌, Bool, true, false, ◌&&◌, ◌||◌, not, nat_lt, ◌==◌, if◌then◌else◌, Option, Some, None, bit_and, bit_or, bit_xor}
+use denote.Enum.Bare.{sameb}
+use Rattle.word64.specs.contracts.kind.Kind as kind_contracts
 use Rattle.word64.specs.declared.kind.Kind.{Kind}
 use Rattle.word64.specs.declared.kind.Kind.TheVariants.{Byte, UByte, Short, UShort, Long, ULong, Integer, UInteger, LongInt, ULongInt, Boolean}
 use Rattle.word64.specs.Kinds.{has_sign}
@@ -16,19 +18,9 @@ is_wide UInteger = true
 is_wide ULongInt = true
 is_wide kind = false
 
--- the numbers of the whole-number types and Boolean, in the order of the Manual's table
-abbrev pub number_of : Kind → ℕ
-number_of Byte = 0
-number_of UByte = 1
-number_of Short = 2
-number_of UShort = 3
-number_of Long = 4
-number_of ULong = 5
-number_of Integer = 6
-number_of UInteger = 7
-number_of LongInt = 8
-number_of ULongInt = 9
-number_of Boolean = 10
+-- whether two types are one
+unfoldable pub same_kind : Kind → Kind → Bool
+same_kind = sameb kind_contracts.the_type
 
 -- the type of what arithmetic gives
 abbrev pub common : Kind → Kind → Kind
@@ -36,7 +28,7 @@ common k l = if is_wide k || is_wide l then UInteger else Integer
 
 -- the type of an IIf: that of both parts where it is one, else as of arithmetic
 abbrev pub merged : Kind → Kind → Kind
-merged k l = if number_of k == number_of l then k else common k l
+merged k l = if same_kind k l then k else common k l
 
 -- True is -1
 abbrev pub truth : Bool → ℕ

@@ -2,7 +2,7 @@ ghost use Rattle.std.specs.Prelude.{◌≡◌, ℕ, ◌-◌, ◌^◌};
 ghost use Rattle.word64.specs.Kinds.{has_sign};
 ghost use Rattle.const_values.specs.Operators.{
   is_wide,
-  number_of,
+  same_kind,
   common,
   merged,
   truth,
@@ -60,25 +60,6 @@ fn signed(kind: Kind) -> bool
     }
 }
 
-// The number of a kind in the order of the table.
-fn number(kind: Kind) -> u8
-    ensures { result ≡ number_of kind }
-{
-    match kind {
-        Kind::Byte => 0,
-        Kind::UByte => 1,
-        Kind::Short => 2,
-        Kind::UShort => 3,
-        Kind::Long => 4,
-        Kind::ULong => 5,
-        Kind::Integer => 6,
-        Kind::UInteger => 7,
-        Kind::LongInt => 8,
-        Kind::ULongInt => 9,
-        Kind::Boolean => 10,
-    }
-}
-
 // The type of what arithmetic gives.
 fn common(one: Kind, other: Kind) -> Kind
     ensures { result ≡ common one other }
@@ -91,10 +72,11 @@ fn common(one: Kind, other: Kind) -> Kind
 }
 
 // The type of an IIf.
+#[tactic(auto, unfolding(crate::specs::Operators::same_kind))]
 fn merged(one: Kind, other: Kind) -> Kind
     ensures { result ≡ merged one other }
 {
-    if number(one) == number(other) {
+    if one == other {
         one
     } else {
         common(one, other)

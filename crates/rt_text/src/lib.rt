@@ -1,4 +1,4 @@
-//! The runtime's string calls, and the bytes that Print writes.
+//! The bytes that Print writes.
 #![tactic(auto)]
 
 mod print;
