@@ -35,7 +35,7 @@ use Rattle.parse_expr.proofs.Firsts.{none_alike}
 use Rattle.parse_expr.proofs.Rowed.{mark_token}
 use Rattle.parse_expr.proofs.Twins.{Rooms, here, there, Loose, Gone, Near, twins, twin_name, twin_type, twin_test, gone_then, gone_if, past, eaten}
 use Rattle.parse_stmt.specs.Steps.{place_at, origin, whole, place, pass_by, no_value, sees_value, any_value, value_behind, initial, is_name, sees_name, any_name, any_type}
-use Rattle.parse_stmt.specs.Variables.{bounds_from, bounds, any_bounds, var, var_turn, vars, listed, listed_turn, all_listed, dim_as, dim_vars, dim_behind, may_share, dim_by, dim, static_, constant}
+use Rattle.parse_stmt.specs.Variables.{bounds_from, bounds, any_bounds, var_behind, var, var_turn, vars, listed, listed_turn, all_listed, dim_as, dim_vars, dim_behind, may_share, dim_by, dim, static_, constant}
 use Rattle.parse_stmt.specs.Simple.{assignment_at, assign, assign_by, must_assign, may_assign, value_turn, values, arguments, call_name, named, is_call, headed, goes_on, sees_bare, valued, sees_open_behind, called, result_, sees_between, printed_value, print_turn, all_printed, print, line_input, exit_at, exit_by, exit, continue_at, continue_by, continue_, return_, brackets, delete, end_}
 use Rattle.parse_stmt.specs.declared.kinds.Level.{Level}
 use Rattle.parse_stmt.specs.Phrases.{Phrase}
@@ -171,7 +171,7 @@ module _ (L : FaultKind → Type 0) (t : Token) (s v : List Token) (same : first
   twin_any_bounds = twin_mark L t s v same Open (behind L t s v same (made L t s v same (λ (b : Bounds). Some b) twin_bounds)) (given L t s v same None)
 
   twin_var : T L t s v same (var (suc deep)) (var (suc deeper))
-  unfolding var
+  unfolding var var_behind
   twin_var = followed L t s v same twin_a_name (λ n. followed L t s v same twin_any_bounds (λ b. followed L t s v same (twin_expect_word L t s v same w.KwAs) (λ u. followed L t s v same twin_a_type (λ ty. made L t s v same (λ init. record { name = n; bounds = b; ty = ty; init = init }) twin_initial))))
 
   twin_vars : T L t s v same (vars (suc deep)) (vars (suc deeper))

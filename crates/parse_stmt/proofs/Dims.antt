@@ -132,7 +132,7 @@ as_next (Some (kinds.Word w.KwAs)) = true
 as_next other = false
 
 pub var_exact : (deep : ℕ) → Exact (reading.var (suc deep)) (grammar.var (suc deep)) comma_or_end
-unfolding reading.var
+unfolding reading.var reading.var_behind
 var_exact deep = exact_then exact_name (λ n. exact_then (any_bounds_exact deep as_next refl) (λ b. exact_then (exact_word w.KwAs) (λ u. exact_then exact_type
     (λ t. exact_made (λ init. record { name = n; bounds = b; ty = t; init = init }) (initial_exact deep))
     (λ t. starts_then comma_or_end comma_or_end no_pointer (initial_starts deep no_pointer refl comma_pointer) (λ init. starts_gives _ comma_or_end comma_or_end (same_under comma_or_end))))

@@ -68,7 +68,7 @@ module _ (most : ℕ) where
   e_any_bounds = e_behind (sees Open) (e_made _ (e_then (e_whole most) (λ one. e_then (e_bounds_from one) (λ all. e_must (e_expect Close) (e_pure all))))) (e_pure None)
 
   e_vars : Early (v.vars most)
-  unfolding v.vars v.var_turn v.var
+  unfolding v.vars v.var_turn v.var v.var_behind
   e_vars = e_all (v.var_turn most) (λ found. e_then (e_then e_name (λ n. e_then e_any_bounds (λ a. e_must (e_expect_word w.KwAs) (e_then e_type (λ ty. e_made _ (e_initial most)))))) (λ x. e_comma found x)) []
 
   e_all_listed : Early (v.all_listed most)

@@ -176,7 +176,7 @@ module _ (deep : ℕ) where
   grows_initial = grows_optional_mark Equal whole like_whole
 
   grows_var : Grows (v.var most) (g.var most) any
-  unfolding v.var same_word
+  unfolding v.var v.var_behind same_word
   grows_var = (grows_then grows_name like_name
       (λ n. grows_then grows_any_bounds (like_behind_mark Open (like_bounds most))
       (λ b. grows_then (grows_word w.KwAs refl) (like_word w.KwAs)

@@ -34,4 +34,5 @@ mod GrowTexts
 mod AtEnds
 mod EndTexts
 mod LateFaults
+mod Answered
 mod Fields

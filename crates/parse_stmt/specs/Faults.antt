@@ -2,8 +2,11 @@
 use Rattle.std.specs.Prelude.{◌≡◌, ◌≢◌, ℕ, ◌+◌, List, [], ◌∷◌, ◌++◌}
 use Rattle.fb_base.specs.declared.fault.Fault.{Fault}
 use Rattle.fb_base.specs.declared.fault.FaultKind.TheVariants.{DeepNesting, Expected}
+use Rattle.fb_lexer.specs.TokenList.{TokenList}
 use Rattle.fb_lexer.specs.declared.token.Token.{Token}
 use Rattle.fb_ast.specs.declared.tree.Tree.{Tree}
+use Rattle.parse_expr.specs.declared.stop.ParseErr.{ParseErr}
+use Rattle.parse_expr.specs.declared.stop.ParseErr.TheVariants as errors
 use Rattle.parse_expr.specs.Expr.{fault_place}
 use Rattle.parse_stmt.specs.Texts.{IsText, IsTextWithin}
 
@@ -34,3 +37,8 @@ pub record FirstAt (tokens : List Token) (fault : Fault) : Type 0 where
   pub short : (last_line : ℕ) (tree : Tree) → rest ≡ [] → IsText front last_line tree → ⊥
   pub ends : rest ≡ [] → fault.kind ≡ Expected
   pub place_is : fault.at ≡ fault_place tokens rest
+
+-- Why tokens have no tree: want of memory; or they are no text, and this is the first fault.
+abbrev pub Fails : TokenList → ParseErr → Type 0
+Fails tokens errors.NoMemory = Unit {0}
+Fails tokens (errors.Fault fault) = FirstAt tokens.items fault × ((tree : Tree) → IsText tokens.items tokens.last_line tree → ⊥)

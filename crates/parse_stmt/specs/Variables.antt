@@ -5,6 +5,7 @@ use Rattle.fb_lexer.specs.declared.token.Mark.TheVariants.{Open, Close, Equal}
 use Rattle.fb_lexer.specs.declared.word.Word.TheVariants as w
 use Rattle.fb_ast.specs.declared.expr.Expr.{Expr}
 use Rattle.fb_ast.specs.declared.part.Bounds.{Bounds}
+use Rattle.fb_ast.specs.declared.part.Name.{Name}
 use Rattle.fb_ast.specs.declared.stmt.Storage.{Storage}
 use Rattle.fb_ast.specs.declared.stmt.Storage.TheVariants as storage
 use Rattle.fb_ast.specs.declared.stmt.Var.{Var}
@@ -34,14 +35,19 @@ bounds most = do
 unfoldable pub any_bounds : ℕ → Reader (Option Bounds)
 any_bounds most = λ ts. if sees Open ts then (do b ← bounds most; pure (Some b)) (next ts) else Ok (None, ts)
 
+-- behind a variable's name and bounds: its type and its initial value
+unfoldable pub var_behind : ℕ → Name → Option Bounds → Reader Var
+var_behind most n b = do
+  expect_word w.KwAs
+  ty ← type_name
+  pure (record { name = n; bounds = b; ty = ty; init = (← initial most) })
+
 -- a variable with a type of its own
 unfoldable pub var : ℕ → Reader Var
 var most = do
   n ← name
   b ← any_bounds most
-  expect_word w.KwAs
-  ty ← type_name
-  pure (record { name = n; bounds = b; ty = ty; init = (← initial most) })
+  var_behind most n b
 
 unfoldable pub var_turn : ℕ → Turn (List Var)
 var_turn most found = var most >>= comma_behind found

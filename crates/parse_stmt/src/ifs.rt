@@ -1,13 +1,13 @@
-//! If on several lines.
+//! If.
 ghost use Rattle.std.specs.Prelude.{◌≡◌};
 ghost use Rattle.parse_expr.specs.Reading.{Reads};
 ghost use Rattle.parse_stmt.specs.Steps.{Turns};
 ghost use Rattle.parse_stmt.specs.Blocks as spec;
 ghost use Rattle.parse_stmt.specs.Nests.{Nests};
 
-use crate::kinds::{Closer, Level, Line, Spot};
+use crate::kinds::{Closer, Level, Line, Spot, level_within, line_within};
 use crate::nest::{Nest, end_of};
-use crate::steps::{place_at, sep, whole};
+use crate::steps::{place_at, sees_sep, sep, whole};
 use fb_ast::{Block, Branch, Expr, Stmt};
 use fb_base::Span;
 use fb_lexer::Word;
@@ -126,9 +126,9 @@ impl<F: Fn(Global, &mut Cursor<'_>, usize, Spot) -> Result<Stmt, Stop>> Nest<F> 
         Ok(None)
     }
 
-    /// Behind Then and the end of a statement: the branches, the Else and `End If`.
+    // Behind Then and the end of a statement: the branches, the Else and `End If`.
     #[tactic(auto, unfolding(crate::specs::Blocks::if_block))]
-    pub fn if_block(
+    fn if_block(
         &self,
         cursor: &mut Cursor<'_>,
         at: Span,
@@ -144,5 +144,43 @@ impl<F: Fn(Global, &mut Cursor<'_>, usize, Spot) -> Result<Stmt, Stop>> Nest<F> 
         let other = self.any_else(cursor, level, line)?;
         let end = end_of(cursor, Word::KwIf)?;
         Ok(Stmt::If(at, all, other, end))
+    }
+
+    // Behind Then.
+    #[tactic(auto, unfolding(crate::specs::Blocks::if_behind))]
+    fn if_behind(
+        &self,
+        cursor: &mut Cursor<'_>,
+        at: Span,
+        condition: Expr,
+        level: Level,
+        line: Line,
+    ) -> Result<Stmt, Stop>
+        requires { Nests self.now.room (F.pre self.now.inner) (F.post self.now.inner) }
+        ensures { Reads (spec.if_behind 200 (spec.stmt 200 self.now.room) self.now.room at condition level line cursor.old) result cursor.new }
+    {
+        if sees_sep(cursor, line) {
+            cursor.take();
+            return self.if_block(cursor, at, condition, level_within(level), line_within(line));
+        }
+        self.if_by(cursor, line, at, condition, level_within(level))
+    }
+
+    /// If, which comes next (FreeBASIC Manual, If...Then).
+    #[tactic(auto, unfolding(crate::specs::Blocks::if_))]
+    pub fn if_(
+        &self,
+        cursor: &mut Cursor<'_>,
+        at: Span,
+        level: Level,
+        line: Line,
+    ) -> Result<Stmt, Stop>
+        requires { Nests self.now.room (F.pre self.now.inner) (F.post self.now.inner) }
+        ensures { Reads (spec.if_ 200 (spec.stmt 200 self.now.room) self.now.room at level line cursor.old) result cursor.new }
+    {
+        cursor.take();
+        let condition = whole(self.alloc, cursor)?;
+        cursor.expect_word(Word::KwThen)?;
+        self.if_behind(cursor, at, condition, level, line)
     }
 }

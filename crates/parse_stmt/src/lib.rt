@@ -2,14 +2,19 @@
 #![tactic(auto)]
 
 mod cases;
+mod defined;
 mod ifs;
 mod kinds;
 mod laws;
 mod looped;
 mod members;
+mod module;
 mod nest;
 mod procedures;
+mod reading;
+mod rows;
 mod simple;
+mod statements;
 mod steps;
 mod variables;
 
@@ -19,3 +24,4 @@ pub use kinds::{
     until_of,
 };
 pub use laws::{fault_places, one_text, texts_found, texts_read};
+pub use reading::parse;

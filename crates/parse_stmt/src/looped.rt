@@ -1,25 +1,55 @@
-//! While, Select and Scope, and the body of a For.
+//! For, While, Do, Select and Scope.
 ghost use Rattle.std.specs.Prelude.{◌≡◌};
 ghost use Rattle.parse_expr.specs.Reading.{Reads};
 ghost use Rattle.parse_stmt.specs.Steps.{Turns};
 ghost use Rattle.parse_stmt.specs.Blocks as spec;
 ghost use Rattle.parse_stmt.specs.Nests.{Nests};
 
-use crate::cases::cases_;
+use crate::cases::{any_test, cases_, last_test};
 use crate::kinds::{Closer, Level, Line, Spot};
 use crate::nest::{Nest, end_of};
-use crate::steps::{any_name, place_at, sep, whole};
-use fb_ast::{Block, CaseBranch, Name, Stmt};
+use crate::steps::{any_name, any_type, place_at, sep, value_behind, whole};
+use fb_ast::{Block, CaseBranch, Expr, Name, Stmt, TypeName};
 use fb_base::Span;
-use fb_lexer::Word;
-use parse_expr::{Cursor, Stop};
+use fb_lexer::{Mark, Word};
+use parse_expr::{Cursor, Stop, name};
 use sqlite_items::Items;
 use std::alloc::Global;
 
 impl<F: Fn(Global, &mut Cursor<'_>, usize, Spot) -> Result<Stmt, Stop>> Nest<F> {
-    /// The body of a For, and the name behind Next.
+    // Start, end and step of a For.
+    #[tactic(auto, unfolding(crate::specs::Blocks::range))]
+    fn range(
+        &self,
+        cursor: &mut Cursor<'_>,
+    ) -> Result<(Expr, Expr, Option<Expr>), Stop>
+        ensures { Reads (spec.range 200 (spec.stmt 200 self.now.room) self.now.room cursor.old) result cursor.new }
+    {
+        let start = whole(self.alloc, cursor)?;
+        cursor.expect_word(Word::KwTo)?;
+        let end = whole(self.alloc, cursor)?;
+        let step = value_behind(self.alloc, cursor, Word::KwStep)?;
+        Ok((start, end, step))
+    }
+
+    // The counter of a For, its type if it is written, and its values.
+    #[tactic(auto, unfolding(crate::specs::Blocks::for_head))]
+    fn for_head(
+        &self,
+        cursor: &mut Cursor<'_>,
+    ) -> Result<(Name, Option<TypeName>, (Expr, Expr, Option<Expr>)), Stop>
+        ensures { Reads (spec.for_head 200 (spec.stmt 200 self.now.room) self.now.room cursor.old) result cursor.new }
+    {
+        let name = name(self.alloc, cursor)?;
+        let ty = any_type(self.alloc, cursor)?;
+        cursor.expect(Mark::Equal)?;
+        let values = self.range(cursor)?;
+        Ok((name, ty, values))
+    }
+
+    // The body of a For, and the name behind Next.
     #[tactic(auto, unfolding(crate::specs::Blocks::for_tail))]
-    pub fn for_tail(
+    fn for_tail(
         &self,
         cursor: &mut Cursor<'_>,
         level: Level,
@@ -33,6 +63,24 @@ impl<F: Fn(Global, &mut Cursor<'_>, usize, Spot) -> Result<Stmt, Stop>> Nest<F> 
         cursor.take();
         let last = any_name(self.alloc, cursor)?;
         Ok((body, last))
+    }
+
+    /// For, which comes next (FreeBASIC Manual, For...Next).
+    #[tactic(auto, unfolding(crate::specs::Blocks::for_))]
+    pub fn for_(
+        &self,
+        cursor: &mut Cursor<'_>,
+        at: Span,
+        level: Level,
+        line: Line,
+    ) -> Result<Stmt, Stop>
+        requires { Nests self.now.room (F.pre self.now.inner) (F.post self.now.inner) }
+        ensures { Reads (spec.for_ 200 (spec.stmt 200 self.now.room) self.now.room at level line cursor.old) result cursor.new }
+    {
+        cursor.take();
+        let (name, ty, (start, end, step)) = self.for_head(cursor)?;
+        let (body, last) = self.for_tail(cursor, level, line)?;
+        Ok(Stmt::For(at, name, ty, start, end, step, body, last))
     }
 
     /// While, which comes next (FreeBASIC Manual, While...Wend).
@@ -53,6 +101,27 @@ impl<F: Fn(Global, &mut Cursor<'_>, usize, Spot) -> Result<Stmt, Stop>> Nest<F> 
         let body = self.body(cursor, level, line, Closer::Wend)?;
         cursor.take();
         Ok(Stmt::While(at, condition, body))
+    }
+
+    /// Do, which comes next (FreeBASIC Manual, Do...Loop).
+    #[tactic(auto, unfolding(crate::specs::Blocks::do_))]
+    pub fn do_(
+        &self,
+        cursor: &mut Cursor<'_>,
+        at: Span,
+        level: Level,
+        line: Line,
+    ) -> Result<Stmt, Stop>
+        requires { Nests self.now.room (F.pre self.now.inner) (F.post self.now.inner) }
+        ensures { Reads (spec.do_ 200 (spec.stmt 200 self.now.room) self.now.room at level line cursor.old) result cursor.new }
+    {
+        cursor.take();
+        let test = any_test(self.alloc, cursor)?;
+        sep(cursor, line)?;
+        let body = self.body(cursor, level, line, Closer::Loop)?;
+        cursor.take();
+        let last = last_test(self.alloc, cursor, test.is_some())?;
+        Ok(Stmt::Do(at, test, body, last))
     }
 
     // Behind Case.

@@ -444,8 +444,8 @@ fn operator_behind(
     mark_operator(alloc, cursor, at)
 }
 
-// A procedure's head by its first word, which has been taken, and what ends its body.
-fn opened(
+/// A procedure's head by its first word, which has been taken, and what ends its body.
+pub fn opened(
     alloc: Global,
     cursor: &mut Cursor<'_>,
     word: ProcedureWord,

@@ -1,0 +1,28 @@
+use Rattle.std.proofs.Common.{◌≡◌, true, false, arith, rules}
+use Rattle.std.proofs.lemmas.Grind.{common_steps}
+use Rattle.parse_stmt.specs.Blocks.{row_from, row_turn, stmt}
+use Rattle.parse_stmt.proofs.Loops.{one, on, last, out}
+use Rattle.parse_stmt.proofs.nest.Nest.row_from.Goals as goal
+
+pub returns-in_err-more : goal.returns-in_err-more
+unfolding row_from
+returns-in_err-more g c =
+    let e = one (row_turn 200 (stmt 200 c.args.self.now.room) c.args.self.now.room c.args.level) _ c.loop-turn._turn c.loop-turn.found c.loop-turn.cursor c.loop-turn.invariant c.loop-turn-test.true in
+    first_of (search rules, grind (arith, common_steps, e))
+
+pub returns-then-not-more : goal.returns-then-not-more
+unfolding row_from
+returns-then-not-more g c =
+    let stops : c.in_ok-more.more ≡ false = first_of (cc, search rules, grind (arith, common_steps)) in
+    last (row_turn 200 (stmt 200 c.args.self.now.room) c.args.self.now.room c.args.level) _ c.loop-turn._turn c.loop-turn.found c.loop-turn.cursor c.loop-turn.invariant c.row_turn.new.found c.in_ok-more.more c.row_turn.new.cursor c.loop-turn-test.true c.in_ok-more.ensures stops
+
+pub loop-turn-preserved : goal.loop-turn-preserved
+loop-turn-preserved g c =
+    let goes : c.in_ok-more.more ≡ true = first_of (cc, search rules, grind (arith, common_steps)) in
+    on (row_turn 200 (stmt 200 c.args.self.now.room) c.args.self.now.room c.args.level) _ c.loop-turn._turn c.loop-turn.found c.loop-turn.cursor c.loop-turn.invariant c.row_turn.new.found c.in_ok-more.more c.row_turn.new.cursor c.loop-turn-test.true c.in_ok-more.ensures goes
+
+pub returns : goal.returns
+unfolding row_from
+returns g c =
+    let e = out (row_turn 200 (stmt 200 c.args.self.now.room) c.args.self.now.room c.args.level) _ c.loop-turn._turn c.loop-turn.found c.loop-turn.cursor c.loop-turn.invariant c.loop-turn-test.false in
+    first_of (search rules, grind (arith, common_steps, e))
