@@ -9,7 +9,7 @@ use Rattle.fb_lexer.specs.declared.word.Word.{Word}
 use Rattle.fb_lexer.specs.declared.word.Word.TheVariants as w
 use Rattle.fb_ast.specs.declared.stmt.Block.{Block, roll-Block}
 use Rattle.fb_ast.specs.declared.stmt.Stmt.{Stmt}
-use Rattle.parse_expr.specs.Reading.{first, next, is_word, same_word, sees_word, refusal, Reader, Outcome, and_then, pure, take_token}
+use Rattle.parse_expr.specs.Reading.{first, next, is_word, same_word, sees_word, Reader, Outcome, and_then, pure, take_token}
 use Rattle.parse_expr.proofs.Sound.{Done, bind, by_test, map_done}
 use Rattle.parse_expr.proofs.Fills.{Failed, failed_then, failed_pure, map_failed}
 use Rattle.parse_expr.proofs.Ends.{no_longer}
@@ -21,12 +21,12 @@ use Rattle.parse_stmt.specs.declared.kinds.Line.TheVariants as lines
 use Rattle.parse_stmt.specs.declared.kinds.Spot.{Spot}
 use Rattle.parse_stmt.specs.declared.kinds.Closer.{Closer}
 use Rattle.parse_stmt.specs.Words.{line_within, ends_with_end}
-use Rattle.parse_stmt.specs.Steps.{place_at, astray, extra, sees_sep, sees_value, Turn, repeat, all_of}
+use Rattle.parse_stmt.specs.Steps.{place_at, astray, extra, sees_sep, sees_value, repeat, all_of}
 use Rattle.parse_stmt.specs.Steps as steps
 use Rattle.parse_stmt.specs.Blocks.{closed, deep_end, behind_end, end_is_deep, block_stmt, ended, block_turn}
 use Rattle.parse_stmt.specs.Blocks as b
 use Rattle.parse_stmt.specs.Phrases.{Phrase, gives, Then, maybe, word, expression}
-use Rattle.parse_stmt.specs.Statements.{is_alone, Statements, none, blank, some, Row, last, another, Many, end_of}
+use Rattle.parse_stmt.specs.Statements.{Statements, none, blank, some, Row, another, end_of}
 use Rattle.parse_stmt.specs.Statements as g
 use Rattle.parse_stmt.proofs.Smallest.{word_is, holds_next}
 use Rattle.parse_stmt.proofs.Heads.{regroup}

@@ -26,16 +26,15 @@ use Rattle.parse_expr.proofs.Sound.{by_test, seen}
 use Rattle.parse_expr.proofs.Refused.{nowhere}
 use Rattle.parse_expr.proofs.Fills.{Failed, failed_then, failed_pure, map_failed}
 use Rattle.parse_expr.proofs.Rowed.{here as at_start, a_number, mark_token, number_is}
-use Rattle.parse_stmt.specs.Steps.{place_at, sees_value, no_value, sees_name, sees_sep}
 use Rattle.parse_stmt.specs.Steps as steps
 use Rattle.parse_stmt.specs.Simple.{assignment_at, assign, assign_by, must_assign, may_assign, arguments, call_name, named, is_call, headed, goes_on, sees_bare, valued, called}
 use Rattle.parse_stmt.specs.Phrases.{Phrase, gives, Then, IsName, expression, place}
-use Rattle.parse_stmt.specs.Statements.{Chosen, values, is_alone, call_word}
+use Rattle.parse_stmt.specs.Statements.{values, is_alone, call_word}
 use Rattle.parse_stmt.specs.Statements as g
 use Rattle.parse_stmt.proofs.Smallest.{exact_name}
 use Rattle.parse_stmt.proofs.Plain.{bare_is, name_stands, place_of_name}
 use Rattle.parse_stmt.proofs.Likes.{any, looks_mark, like_place}
-use Rattle.parse_stmt.proofs.Starts.{Reach, over, over_fits, Starts, starts_more, starts_itself, FirstOf, first_of}
+use Rattle.parse_stmt.proofs.Starts.{Reach, over, Starts, starts_more, starts_itself, FirstOf, first_of}
 use Rattle.parse_stmt.proofs.Plainly.{Plainly, both_by, plain_valued}
 use Rattle.parse_stmt.proofs.Leads.{BeginsValue}
 use Rattle.parse_stmt.proofs.Grows.{Begun}

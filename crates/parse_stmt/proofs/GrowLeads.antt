@@ -1,5 +1,5 @@
 -- What is read of any statement before a fault can be completed.
-use Rattle.std.proofs.Common.{◌≡◌, ◌≤◌, ℕ, zero, suc, ◌==◌, Bool, true, false, List, [], ◌∷◌, ◌++◌, Option, Some, None, refl, sym, ap, ◌∙◌, subst, ◌⊎◌, inl, inr, arith, append_assoc}
+use Rattle.std.proofs.Common.{◌≡◌, ◌≤◌, ℕ, zero, suc, Bool, true, List, [], ◌∷◌, ◌++◌, Option, refl, sym, ap, ◌∙◌, subst, ◌⊎◌, inl, inr}
 use Rattle.fb_base.specs.declared.fault.FaultKind.{FaultKind}
 use Rattle.fb_base.specs.declared.fault.FaultKind.TheVariants.{DeepNesting, Expected, ExtraText, OutOfProfile}
 use Rattle.fb_lexer.specs.declared.token.Token.{Token}
@@ -20,23 +20,23 @@ use Rattle.parse_stmt.specs.declared.kinds.Lead.TheVariants as leads
 use Rattle.parse_stmt.specs.Words.{level_within, line_within, lead_of}
 use Rattle.parse_stmt.specs.Steps.{astray}
 use Rattle.parse_stmt.specs.Blocks as b
-use Rattle.parse_stmt.specs.Phrases.{Phrase, Then, maybe, any_token, expression}
-use Rattle.parse_stmt.specs.Statements.{is_alone, nothing, call_word}
+use Rattle.parse_stmt.specs.Phrases.{Phrase, maybe, expression}
+use Rattle.parse_stmt.specs.Statements.{is_alone, nothing}
 use Rattle.parse_stmt.specs.Statements as g
 use Rattle.parse_stmt.proofs.Bodies.{Inside}
 use Rattle.parse_stmt.proofs.Stmts.{inside_of}
 use Rattle.parse_stmt.proofs.AlikeEnds.{call_kind}
-use Rattle.parse_stmt.proofs.Starts.{Reach, near, far, over, above, over_fits, over_near, over_far, over_two, OnFar, on_far, starting, IsRefused, Starting, Starts, starts_out, starts_instead, Astray, short, out, wrong, astray_as, reach_is, far_has, near_any, same_head}
+use Rattle.parse_stmt.proofs.Starts.{Reach, near, far, over, above, over_fits, over_near, over_two, starting, Starts, starts_out, starts_instead, Astray, short, out, wrong, astray_as, reach_is, far_has, near_any, same_head}
 use Rattle.parse_stmt.proofs.Wides.{Wider, wide_stmt}
 use Rattle.parse_stmt.proofs.Plainly.{Plainly, both_by, plain_valued, plain_called}
-use Rattle.parse_stmt.proofs.Leads.{expected_or, BeginsValue, begins_value}
+use Rattle.parse_stmt.proofs.Leads.{expected_or, begins_value}
 use Rattle.parse_stmt.proofs.Likes.{Like, any, Whatever}
 use Rattle.parse_stmt.proofs.LikeStmts.{stops, stop_alone, like_stmt}
 use Rattle.parse_stmt.proofs.Grows.{Begun, at_once}
 use Rattle.parse_stmt.proofs.GrowParts.{word_token}
 use Rattle.parse_stmt.proofs.GrowSimple.{Going, Goes, goes_dim, goes_static, goes_constant, goes_result, goes_print, goes_line_input, goes_exit, goes_continue, goes_return, goes_delete, goes_end}
 use Rattle.parse_stmt.proofs.GrowCalls.{valued_fails, valued_least, called_fails, shut_call}
-use Rattle.parse_stmt.proofs.GrowBlocks.{end_within, Nothing, Elsewhere, StmtFault, EndStands}
+use Rattle.parse_stmt.proofs.GrowBlocks.{end_within, Elsewhere, StmtFault, EndStands}
 use Rattle.parse_stmt.proofs.GrowStmts.{goes_for, goes_while, goes_do, goes_scope, goes_select, goes_if}
 
 -- ---- statements that stand everywhere
@@ -90,13 +90,13 @@ module _ (reach : Reach) (deep : ℕ) (inner : Spot → Reader Stmt) (room : ℕ
 
   deep_first : (t : Token) (level : Level) (line : Line) (us more : List Token) → ((r : List Token) → stops line r ≡ true → (x : Stmt) × Led t level line (more ++ r) x r) → Starts reach DeepNesting (t ∷ us) more → FirstBegun level line (t ∷ us) DeepNesting
   deep_first t level line us more stands starts = elim (reach_is reach) [
-    inl it ↦ exit_at_once level line (t ∷ us) DeepNesting (near_any reach _ it) |
-    inr it ↦ (
-      let s = far_has reach it starts in
-      let same : s.token ≡ t = sym (same_head t s.token us s.such.0 s.such.1) in
-      at_once (Statement level line) (stops line) (t ∷ us) DeepNesting more
-      (λ r c. let y = stands r c in (y.0, (t, s.behind ++ r, ap (λ (xs : List Token). xs ++ r) s.is ∙ ap (λ (u : Token). u ∷ (s.behind ++ r)) same, y.1))) starts
-    )
+    | inl it ↦ exit_at_once level line (t ∷ us) DeepNesting (near_any reach _ it)
+    | inr it ↦ (
+        let s = far_has reach it starts in
+        let same : s.token ≡ t = sym (same_head t s.token us s.such.0 s.such.1) in
+        at_once (Statement level line) (stops line) (t ∷ us) DeepNesting more
+        (λ r c. let y = stands r c in (y.0, (t, s.behind ++ r, ap (λ (xs : List Token). xs ++ r) s.is ∙ ap (λ (u : Token). u ∷ (s.behind ++ r)) same, y.1))) starts
+        )
   ]
 
   led_first : (t : Token) (level : Level) (line : Line) (us : List Token) (kind : FaultKind) (more : List Token) → ((r : List Token) → stops line r ≡ true → (x : Stmt) × Led t level line (more ++ r) x r) → Starts reach kind (t ∷ us) more → Plainly kind (t ∷ us) → FirstBegun level line (t ∷ us) kind

@@ -29,12 +29,12 @@ use Rattle.parse_expr.proofs.Rowed.{here as at_start, a_number, number_is, mark_
 use Rattle.parse_expr.proofs.Begun.{begun}
 use Rattle.parse_stmt.specs.declared.kinds.Line.{Line}
 use Rattle.parse_stmt.specs.Steps as reading
-use Rattle.parse_stmt.specs.Steps.{place_at, extra, sees_sep, sees_value, no_value, pass_by, Turn, all_of, comma_behind}
-use Rattle.parse_stmt.specs.Phrases.{Phrase, gives, Then, either, maybe, taken, mark, word, IsName, ty, expression, place}
+use Rattle.parse_stmt.specs.Steps.{place_at, extra, sees_sep, sees_value, no_value, pass_by}
+use Rattle.parse_stmt.specs.Phrases.{Phrase, gives, Then, either, maybe, mark, word, IsName, ty, expression, place}
 use Rattle.parse_stmt.specs.Phrases as phrases
 use Rattle.parse_stmt.proofs.Smallest.{exact_name, exact_type, exact_whole, exact_place}
 use Rattle.parse_stmt.proofs.Values.{exact_passed}
-use Rattle.parse_stmt.proofs.Starts.{Reach, near, far, over, over_fits, over_far, Starting, starting, IsFree, Comes, Starts, starts_extra, starts_refusal, Unmarked, FirstOf, first_of}
+use Rattle.parse_stmt.proofs.Starts.{Reach, near, far, over, over_fits, over_far, starting, IsFree, Comes, Starts, starts_extra, starts_refusal, Unmarked, FirstOf, first_of}
 use Rattle.parse_stmt.proofs.Wides.{widened, wide_expression, wide_place}
 use Rattle.parse_stmt.proofs.Likes.{Like, any, looks_mark, looks_word, like_expression, like_name, first_in, none_taken}
 use Rattle.parse_stmt.proofs.Grows.{Begun, Grows, grows_gives, grows_taken, grows_made, grows_behind, grows_choose, at_once, one_begun}

@@ -6,15 +6,9 @@ use Rattle.fb_base.specs.declared.fault.FaultKind.TheVariants.{Expected, OutOfPr
 use Rattle.fb_lexer.specs.declared.token.Token.{Token}
 use Rattle.fb_lexer.specs.declared.token.TokenKind.{TokenKind}
 use Rattle.fb_lexer.specs.declared.token.TokenKind.TheVariants as kinds
-use Rattle.fb_lexer.specs.declared.token.Mark.TheVariants.{Open, Close, OpenBracket, CloseBracket, Equal, Plus, Semicolon, Comma, Dot}
+use Rattle.fb_lexer.specs.declared.token.Mark.TheVariants.{Open, Close, OpenBracket, CloseBracket, Equal, Semicolon, Comma}
 use Rattle.fb_lexer.specs.declared.word.Word.TheVariants as w
 use Rattle.fb_ast.specs.declared.expr.Expr.{Expr}
-use Rattle.fb_ast.specs.declared.operator.Binary.{Binary}
-use Rattle.fb_ast.specs.declared.part.Item.TheVariants as item
-use Rattle.fb_ast.specs.declared.part.Member.{Member}
-use Rattle.fb_ast.specs.declared.part.Member.TheVariants as member
-use Rattle.fb_ast.specs.declared.part.Mode.TheVariants as mode
-use Rattle.fb_ast.specs.declared.part.Name.{Name}
 use Rattle.fb_ast.specs.declared.stmt.Case.TheVariants as case
 use Rattle.fb_ast.specs.declared.stmt.Cases.TheVariants as cases
 use Rattle.fb_ast.specs.declared.stmt.Printed.{Printed}
@@ -25,37 +19,31 @@ use Rattle.fb_ast.specs.declared.stmt.Storage.TheVariants as storage
 use Rattle.fb_ast.specs.declared.stmt.Test.{Test}
 use Rattle.fb_ast.specs.declared.stmt.Until.{Until}
 use Rattle.parse_expr.specs.declared.stop.Stop.TheVariants as stops
-use Rattle.parse_expr.specs.Reading.{first, next, is_mark, same_mark, same_word, sees, sees_word, expect_word, refusal, refusal_by, Reader, Outcome, and_then, pure, take_token}
-use Rattle.parse_expr.specs.Types.{type_name}
-use Rattle.parse_expr.specs.Types as types
+use Rattle.parse_expr.specs.Reading.{first, next, is_mark, same_mark, same_word, sees, sees_word, refusal, refusal_by, Reader, Outcome, and_then, pure, take_token}
 use Rattle.parse_expr.proofs.Sound.{Done, by_test, map_done}
 use Rattle.parse_expr.proofs.Fills.{Failed, failed_then, failed_pure, map_failed}
-use Rattle.parse_expr.proofs.Rowed.{here as at_start, a_number, mark_token}
+use Rattle.parse_expr.proofs.Rowed.{a_number, mark_token}
 use Rattle.parse_stmt.specs.declared.kinds.Level.{Level}
-use Rattle.parse_stmt.specs.Steps.{place_at, origin, sees_value, sees_name, no_value, pass_by, Turn, repeat, all_of, comma_behind}
+use Rattle.parse_stmt.specs.Steps.{place_at, sees_value, no_value, pass_by, repeat}
 use Rattle.parse_stmt.specs.Steps as steps
 use Rattle.parse_stmt.specs.Variables as v
 use Rattle.parse_stmt.specs.Simple as s
 use Rattle.parse_stmt.specs.Simple.{sees_between, printed_value, print_turn}
 use Rattle.parse_stmt.specs.Blocks as b
-use Rattle.parse_stmt.specs.Procedures as p
-use Rattle.parse_stmt.specs.Procedures.{Opening}
-use Rattle.parse_stmt.specs.Module as m
-use Rattle.parse_stmt.specs.Phrases.{Phrase, gives, Then, ◌>>◌, either, maybe, behind_mark, behind_word, taken, mark, word, any_token, here, Listed, last, name, ty, expression, place}
+use Rattle.parse_stmt.specs.Phrases.{Phrase, gives, Then, ◌>>◌, either, maybe, behind_mark, behind_word, taken, mark, word, any_token, here, Listed, last, ty, expression, place}
 use Rattle.parse_stmt.specs.Statements.{Chosen, AllPrinted, nothing, semicolon, comma, value}
 use Rattle.parse_stmt.specs.Statements as g
-use Rattle.parse_stmt.specs.Texts as texts
 use Rattle.parse_stmt.proofs.Dims.{vars_exact, all_listed_exact}
 use Rattle.parse_stmt.proofs.Plain.{exact_values}
 use Rattle.parse_stmt.proofs.Parts.{exact_cases_list, exact_any_test}
 use Rattle.parse_stmt.proofs.Printing.{exact_printed}
-use Rattle.parse_stmt.proofs.Heads.{exact_params, exact_operator, regroup}
+use Rattle.parse_stmt.proofs.Heads.{regroup}
 use Rattle.parse_stmt.proofs.Starts.{Reach, over, over_fits, Starts, starts_refusal}
 use Rattle.parse_stmt.proofs.Wides.{widened, wide_listed, wide_expression, wide_var, wide_shared_var, wide_printed, wide_any_test, wide_case}
-use Rattle.parse_stmt.proofs.Likes.{Like, any, Looks, looks_mark, looks_word, like_then, like_either, like_mark, like_word, like_here, like_name, like_type, like_expression, like_place, like_listed}
-use Rattle.parse_stmt.proofs.LikeParts.{done, like_behind_mark, like_behind_word, like_maybe, like_bounds, like_var, like_shared_var, like_printed, like_range, like_case, like_mode, like_param_name, like_param, like_some_params, like_any_params, like_one_param, like_no_params, like_overload, like_sub_head, like_function_head, like_declared_head, like_operator_mark, like_two_params}
-use Rattle.parse_stmt.proofs.Grows.{Begun, Grows, grows_gives, grows_then, grows_made, grows_behind, grows_choose, grows_same, grows_list, at_once, other_begun}
-use Rattle.parse_stmt.proofs.GrowParts.{word_token, grows_mark, grows_word, grows_here, grows_name, grows_type, value_stands, grows_whole, grows_place, grows_or_none, grows_any_value, grows_optional_mark, grows_optional_word, grows_any_name}
+use Rattle.parse_stmt.proofs.Likes.{Like, any, Looks, looks_mark, looks_word, like_then, like_either, like_mark, like_word, like_name, like_type, like_expression, like_place, like_listed}
+use Rattle.parse_stmt.proofs.LikeParts.{done, like_behind_mark, like_behind_word, like_maybe, like_bounds, like_var, like_shared_var, like_printed, like_range, like_case}
+use Rattle.parse_stmt.proofs.Grows.{Begun, Grows, grows_gives, grows_then, grows_made, grows_behind, grows_list, at_once, other_begun}
+use Rattle.parse_stmt.proofs.GrowParts.{word_token, grows_mark, grows_word, grows_name, grows_type, value_stands, grows_whole, grows_place, grows_or_none, grows_any_value, grows_optional_mark, grows_optional_word}
 
 -- ---- from a token on
 

@@ -13,7 +13,7 @@ use Rattle.fb_ast.specs.declared.stmt.Branch.{Branch, roll-Branch}
 use Rattle.fb_ast.specs.declared.stmt.CaseBranch.{CaseBranch, roll-CaseBranch}
 use Rattle.fb_ast.specs.declared.stmt.Stmt.{Stmt}
 use Rattle.fb_ast.specs.declared.stmt.Stmt.TheVariants as k
-use Rattle.parse_expr.specs.Reading.{first, next, is_word, same_word, sees_word, refusal, Reader, Outcome, and_then, pure}
+use Rattle.parse_expr.specs.Reading.{first, next, is_word, same_word, sees_word, Reader, Outcome, and_then, pure}
 use Rattle.parse_expr.proofs.Sound.{Done, bind, by_test, map_done}
 use Rattle.parse_expr.proofs.Fills.{Failed, failed_then, failed_pure, map_failed}
 use Rattle.parse_expr.proofs.Ends.{no_longer}
@@ -21,15 +21,13 @@ use Rattle.parse_stmt.specs.declared.kinds.Level.{Level}
 use Rattle.parse_stmt.specs.declared.kinds.Line.{Line}
 use Rattle.parse_stmt.specs.declared.kinds.Line.TheVariants as lines
 use Rattle.parse_stmt.specs.declared.kinds.Spot.{Spot}
-use Rattle.parse_stmt.specs.declared.kinds.Lead.{Lead}
-use Rattle.parse_stmt.specs.declared.kinds.Lead.TheVariants as leads
 use Rattle.parse_stmt.specs.declared.kinds.Closer.TheVariants as closers
-use Rattle.parse_stmt.specs.Words.{level_within, line_within, lead_of}
-use Rattle.parse_stmt.specs.Steps.{place_at, last_before, astray, extra, sees_sep, Turn, repeat}
-use Rattle.parse_stmt.specs.Blocks.{closed, deep_end, behind_end, end_is_deep, block_stmt, ended, block_turn}
+use Rattle.parse_stmt.specs.Words.{level_within, line_within}
+use Rattle.parse_stmt.specs.Steps.{place_at, last_before, extra, sees_sep, Turn, repeat}
+use Rattle.parse_stmt.specs.Blocks.{ended}
 use Rattle.parse_stmt.specs.Blocks as b
 use Rattle.parse_stmt.specs.Phrases.{Phrase, gives, Then, ◌>>◌, either, maybe, word, sep, name, expression}
-use Rattle.parse_stmt.specs.Statements.{is_alone, Statements, none, blank, some, Row, last, another, Many, end_of}
+use Rattle.parse_stmt.specs.Statements.{none, some, Row, last, another, Many, end_of}
 use Rattle.parse_stmt.specs.Statements as g
 use Rattle.parse_stmt.proofs.Heads.{regroup}
 use Rattle.parse_stmt.proofs.Bodies.{Inside, sep_less}

@@ -32,14 +32,14 @@ use Rattle.parse_stmt.specs.declared.kinds.Closer.TheVariants as closers
 use Rattle.parse_stmt.specs.declared.kinds.ProcedureWord.{ProcedureWord}
 use Rattle.parse_stmt.specs.declared.kinds.ProcedureWord.TheVariants as words
 use Rattle.parse_stmt.specs.declared.kinds.Found.{Found}
-use Rattle.parse_stmt.specs.Steps.{place_at, words_before, extra, sees_sep, Turn, repeat, all_of}
+use Rattle.parse_stmt.specs.Steps.{place_at, words_before, extra, sees_sep, repeat}
 use Rattle.parse_stmt.specs.Steps as steps
 use Rattle.parse_stmt.specs.Blocks as b
 use Rattle.parse_stmt.specs.Procedures as p
 use Rattle.parse_expr.specs.Types as types
 use Rattle.parse_stmt.specs.Procedures.{Opening}
 use Rattle.parse_stmt.specs.Module.{has_field, is_field, one_member, ended_member, member_turn, members, type_def, declare, ended_by, ended_item, main_stmt, ended_stmt, procedure_word, item_by, one_item, more_items, item_turn, item_at, module_}
-use Rattle.parse_stmt.specs.Phrases.{Phrase, gives, Then, either, word, sep, here}
+use Rattle.parse_stmt.specs.Phrases.{Phrase, gives, Then, either, word, sep}
 use Rattle.parse_stmt.specs.Phrases as phrases
 use Rattle.parse_stmt.specs.Statements as g
 use Rattle.parse_stmt.specs.Statements.{end_of}

@@ -17,7 +17,6 @@ use Rattle.parse_stmt.proofs.EarlyFaults.{first_at}
 use Rattle.parse_stmt.proofs.AtEnds.{AtEnd}
 use Rattle.parse_stmt.proofs.EndTexts.{e_module}
 use Rattle.parse_stmt.proofs.Starts.{near}
-use Rattle.parse_stmt.proofs.Reasons.{kinds_stand}
 use Rattle.parse_stmt.proofs.GrowTexts.{TextBegun, module_fails}
 
 abbrev error_or : ParseErr → Result Tree ParseErr → ParseErr

@@ -1,5 +1,5 @@
 -- What the first token of a statement says of it.
-use Rattle.std.proofs.Common.{◌≡◌, Bool, true, false, Some, refl, sym, ap, ◌∙◌, ◌⊎◌, inl, inr}
+use Rattle.std.proofs.Common.{◌≡◌, true, false, Some, refl, ap, ◌∙◌, ◌⊎◌, inl, inr}
 use Rattle.fb_base.specs.declared.fault.FaultKind.{FaultKind}
 use Rattle.fb_base.specs.declared.fault.FaultKind.TheVariants.{Expected}
 use Rattle.fb_lexer.specs.declared.token.Token.{Token}

@@ -1,5 +1,5 @@
 -- Assignments and calls tell no ExtraText themselves.
-use Rattle.std.proofs.Common.{◌≡◌, ℕ, zero, suc, ◌+◌, Bool, true, false, if◌then◌else◌, List, [], ◌∷◌, ◌++◌, length, Option, Some, None, Ok, Err, refl, sym, ap, ◌∙◌, subst, ◌⊎◌, inl, inr, arith}
+use Rattle.std.proofs.Common.{◌≡◌, ℕ, zero, suc, ◌+◌, Bool, true, false, if◌then◌else◌, List, [], ◌∷◌, ◌++◌, length, Option, Some, None, Ok, Err, refl, sym, ◌∙◌, subst, inl, inr, arith}
 use Rattle.fb_base.specs.declared.fault.Span.{Span}
 use Rattle.fb_base.specs.declared.fault.FaultKind.{FaultKind}
 use Rattle.fb_base.specs.declared.fault.FaultKind.TheVariants.{DeepNesting, Expected, ExtraText, OutOfProfile}
@@ -20,7 +20,7 @@ use Rattle.parse_expr.proofs.Refused.{refusals}
 use Rattle.parse_expr.proofs.Fills.{Failed, FaultOf, Next, failed_then, failed_pure, map_failed}
 use Rattle.parse_expr.proofs.Rowed.{Whole, NoRoom}
 use Rattle.parse_expr.proofs.Begun.{begun}
-use Rattle.parse_stmt.specs.Steps.{place_at, sees_value, no_value, pass_by, repeat, all_of, comma_behind}
+use Rattle.parse_stmt.specs.Steps.{sees_value, no_value, pass_by, repeat, comma_behind}
 use Rattle.parse_stmt.specs.Steps as steps
 use Rattle.parse_stmt.specs.Simple.{assignment_at, assign, assign_by, must_assign, may_assign, value_turn, values, arguments, call_name, named, is_call, headed, sees_bare, sees_open_behind, valued, called}
 use Rattle.parse_stmt.proofs.Heads.{regroup}

@@ -1,5 +1,5 @@
 -- Each kind of a fault has its reason.
-use Rattle.std.proofs.Common.{◌≡◌, ℕ, suc, List, [], ◌∷◌, ◌++◌, Ok, Err, true, refl, sym, ap, ◌∙◌, subst, ◌⊎◌, inl, inr, append_assoc}
+use Rattle.std.proofs.Common.{◌≡◌, ℕ, List, [], ◌∷◌, ◌++◌, Err, true, refl, sym, ap, ◌∙◌, subst, ◌⊎◌, inl, inr, append_assoc}
 use Rattle.fb_base.specs.declared.fault.FaultKind.{FaultKind}
 use Rattle.fb_base.specs.declared.fault.FaultKind.TheVariants.{DeepNesting, Expected, ExtraText, OutOfProfile}
 use Rattle.fb_lexer.specs.declared.token.Token.{Token}
@@ -11,14 +11,15 @@ use Rattle.parse_expr.specs.Reading.{Outcome}
 use Rattle.parse_expr.proofs.Fills.{Failed}
 use Rattle.parse_stmt.specs.declared.kinds.Found.{Found}
 use Rattle.parse_stmt.specs.Module.{module_}
-use Rattle.parse_stmt.specs.Texts.{Items, IsText, IsTextWithin}
-use Rattle.parse_stmt.specs.Faults.{Begins, BeginsDeeper, BeginsAtAnyDepth, TakesOperand, TakesType, TakesStatement, TakesMember, RefusedThere, TakesEnd, Tells}
+use Rattle.parse_stmt.specs.Texts.{Items}
+use Rattle.parse_stmt.specs.Faults.{Begins, BeginsAtAnyDepth, TakesOperand, TakesType, TakesStatement, TakesMember, RefusedThere, TakesEnd, HasKind, Tells}
 use Rattle.parse_stmt.proofs.Likes.{same_front}
-use Rattle.parse_stmt.proofs.Starts.{Reach, near, far, over, above, Starting, IsEnd, IsFree, IsRefused, Comes, Starts, same_head}
+use Rattle.parse_stmt.proofs.Starts.{Reach, near, far, over, above, Starting, IsFree, same_head}
+use Rattle.parse_stmt.proofs.EarlyFaults.{none_deeper}
 use Rattle.parse_stmt.proofs.GrowTexts.{TextBegun, module_fails}
 
 -- tokens with one more, completed to a text
-record Goes (most room : ℕ) (front : List Token) (t : Token) : Type 0 where
+record Completed (most room : ℕ) (front : List Token) (t : Token) : Type 0 where
   more : List Token
   all : List Item
   count : ℕ
@@ -27,10 +28,10 @@ record Goes (most room : ℕ) (front : List Token) (t : Token) : Type 0 where
 abbrev tree_with : List Item → ℕ → Tree
 tree_with all count = record { items = all; tokens = count; last_line = 0 }
 
-near_begins : (front : List Token) (t : Token) → Goes 200 199 front t → Begins (front ++ t ∷ [])
+near_begins : (front : List Token) (t : Token) → Completed 200 199 front t → Begins (front ++ t ∷ [])
 near_begins front t g = record { more = g.more; last_line = 0; tree = tree_with g.all g.count; are = (g.are, refl) }
 
-far_begins : (front : List Token) (t : Token) → Goes 202 200 front t → BeginsAtAnyDepth (front ++ t ∷ [])
+far_begins : (front : List Token) (t : Token) → Completed 202 200 front t → BeginsAtAnyDepth (front ++ t ∷ [])
 far_begins front t g = record { more_deep = 2; more_room = 1; begins = record { more = g.more; last_line = 0; tree = tree_with g.all g.count; are = (g.are, refl) } }
 
 module _ (front s : List Token) (t : Token) where
@@ -38,7 +39,7 @@ module _ (front s : List Token) (t : Token) where
   whole = front ++ t ∷ s
 
   -- the completion goes on with such a token
-  goes_on : {S : Token → Type 0} (reach : Reach) (kind : FaultKind) (f : TextBegun reach 199 199 whole kind (t ∷ s)) (x : Starting S f.more) → Goes (over reach 200) (above reach 199) front x.token
+  goes_on : {S : Token → Type 0} (reach : Reach) (kind : FaultKind) (f : TextBegun reach 199 199 whole kind (t ∷ s)) (x : Starting S f.more) → Completed (over reach 200) (above reach 199) front x.token
   goes_on reach kind f x =
       let same : f.front ≡ front = same_front f.front front (t ∷ s) (sym f.is) in
       let all_same : f.front ++ f.more ≡ (front ++ x.token ∷ []) ++ x.behind =
@@ -65,7 +66,7 @@ module _ (front s : List Token) (t : Token) where
   deep_told f =
       let x = f.starts in
       let same : x.token ≡ t = sym (same_head t x.token s x.such.0 x.such.1) in
-      far_begins front t (subst (λ (u : Token). Goes 202 200 front u) same (goes_on far DeepNesting f x))
+      far_begins front t (subst (λ (u : Token). Completed 202 200 front u) same (goes_on far DeepNesting f x))
 
   reason : (kind : FaultKind) → TextBegun near 199 199 whole kind (t ∷ s) → TextBegun far 199 199 whole kind (t ∷ s) → Tells front t kind
   reason Expected n f = tt
@@ -79,3 +80,23 @@ module _ (front s : List Token) (t : Token) where
   kinds_stand kind is =
       reason kind (subst (λ (o : Outcome Found). Failed (TextBegun near 199 199 whole) o) is (module_fails near 199 199 whole))
       (subst (λ (o : Outcome Found). Failed (TextBegun far 199 199 whole) o) is (module_fails far 199 199 whole))
+
+  -- ---- the first kind that has a reason
+
+  abbrev Fault : FaultKind → Type 0
+  Fault kind = module_ 200 199 (front ++ t ∷ s) ≡ Err (stops.Fault kind, t ∷ s)
+
+  -- where not only the depth is wrong
+  no_depth : (kind : FaultKind) → Fault kind → (kind ≡ DeepNesting → ⊥) → BeginsAtAnyDepth (front ++ t ∷ []) → ⊥
+  no_depth kind is other b = none_deeper front s t kind is other b.more_deep b.more_room b.begins
+
+  kind_by : (kind : FaultKind) → Fault kind → ((kind ≡ OutOfProfile → ⊥) → RefusedThere front t → ⊥) → (kind ≡ Expected → TakesEnd front → ⊥) → Tells front t kind → HasKind front t kind
+  kind_by OutOfProfile is plain no_end told = told
+  kind_by DeepNesting is plain no_end told = (plain (λ e. cc), told)
+  kind_by ExtraText is plain no_end told = (plain (λ e. cc), no_depth ExtraText is (λ e. cc), told)
+  kind_by Expected is plain no_end told = (plain (λ e. cc), no_depth Expected is (λ e. cc), no_end refl)
+  kind_by kind is plain no_end told = told
+
+  -- The kind is the first one in the order that has a reason, if a kind is told only where no earlier one has one.
+  pub has_kind : (kind : FaultKind) → Fault kind → ((kind ≡ OutOfProfile → ⊥) → RefusedThere front t → ⊥) → (kind ≡ Expected → TakesEnd front → ⊥) → HasKind front t kind
+  has_kind kind is plain no_end = kind_by kind is plain no_end (kinds_stand kind is)

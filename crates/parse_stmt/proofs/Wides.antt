@@ -1,5 +1,5 @@
 -- A phrase is one of a greater depth, too.
-use Rattle.std.proofs.Common.{◌≡◌, ◌≤◌, ℕ, zero, suc, Bool, true, false, List, [], ◌∷◌, Option, Some, None, refl, inl, inr, arith}
+use Rattle.std.proofs.Common.{◌≤◌, ℕ, zero, suc, Bool, true, false, List, Option, Some, None, inl, inr, arith}
 use Rattle.fb_base.specs.declared.fault.Span.{Span}
 use Rattle.fb_lexer.specs.declared.token.Token.{Token}
 use Rattle.fb_lexer.specs.declared.token.Mark.{Mark}
@@ -23,7 +23,7 @@ use Rattle.parse_stmt.specs.declared.kinds.Closer.{Closer}
 use Rattle.parse_stmt.specs.Procedures.{Opening}
 use Rattle.parse_stmt.specs.Words.{level_within, line_within, lead_of}
 use Rattle.parse_stmt.specs.Variables.{may_share}
-use Rattle.parse_stmt.specs.Phrases.{Phrase, gives, Then, either, maybe, behind_mark, behind_word, before, Listed, last, another, sep, expression, place}
+use Rattle.parse_stmt.specs.Phrases.{Phrase, Then, either, maybe, behind_mark, behind_word, Listed, last, another, sep, expression, place}
 use Rattle.parse_stmt.specs.Statements.{AllPrinted, nothing, semicolon, comma, value, Many, none, some, Statements, blank, Row}
 use Rattle.parse_stmt.specs.Statements as g
 use Rattle.parse_stmt.specs.Texts.{Members}
