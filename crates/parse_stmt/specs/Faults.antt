@@ -1,13 +1,17 @@
 -- The tokens up to which some text agrees, and where a fault stands.
-use Rattle.std.specs.Prelude.{◌≡◌, ◌≢◌, ℕ, ◌+◌, List, [], ◌∷◌, ◌++◌}
+use Rattle.std.specs.Prelude.{◌≡◌, ◌≢◌, ℕ, ◌+◌, true, List, [], ◌∷◌, ◌++◌, ◌⊎◌}
 use Rattle.fb_base.specs.declared.fault.Fault.{Fault}
-use Rattle.fb_base.specs.declared.fault.FaultKind.TheVariants.{DeepNesting, Expected}
+use Rattle.fb_base.specs.declared.fault.FaultKind.{FaultKind}
+use Rattle.fb_base.specs.declared.fault.FaultKind.TheVariants.{DeepNesting, Expected, ExtraText, OutOfProfile}
 use Rattle.fb_lexer.specs.TokenList.{TokenList}
 use Rattle.fb_lexer.specs.declared.token.Token.{Token}
+use Rattle.fb_lexer.specs.declared.token.TokenKind.TheVariants as kinds
+use Rattle.fb_lexer.specs.declared.word.Word.TheVariants as w
 use Rattle.fb_ast.specs.declared.tree.Tree.{Tree}
 use Rattle.parse_expr.specs.declared.stop.ParseErr.{ParseErr}
 use Rattle.parse_expr.specs.declared.stop.ParseErr.TheVariants as errors
 use Rattle.parse_expr.specs.Expr.{fault_place}
+use Rattle.parse_expr.specs.Faults.{is_refused_kind}
 use Rattle.parse_stmt.specs.Texts.{IsText, IsTextWithin}
 
 -- tokens that some text begins with
@@ -37,6 +41,67 @@ pub record FirstAt (tokens : List Token) (fault : Fault) : Type 0 where
   pub short : (last_line : ℕ) (tree : Tree) → rest ≡ [] → IsText front last_line tree → ⊥
   pub ends : rest ≡ [] → fault.kind ≡ Expected
   pub place_is : fault.at ≡ fault_place tokens rest
+
+-- ---- the kind of a fault
+
+-- tokens that some text begins with, however deep
+pub record BeginsAtAnyDepth (ts : List Token) : Type 0 where
+  pub more_deep : ℕ
+  pub more_room : ℕ
+  pub begins : BeginsDeeper more_deep more_room ts
+
+-- Behind these tokens an operand may begin: a number may stand there.
+pub record TakesOperand (front : List Token) : Type 0 where
+  pub token : Token
+  pub value : ℕ
+  pub kind : token.kind ≡ kinds.Number value
+  pub begins : BeginsAtAnyDepth (front ++ token ∷ [])
+
+-- Here a type: the word Integer may stand there.
+pub record TakesType (front : List Token) : Type 0 where
+  pub token : Token
+  pub kind : token.kind ≡ kinds.Word w.KwInteger
+  pub begins : BeginsAtAnyDepth (front ++ token ∷ [])
+
+-- Here a statement: the word Print may stand there.
+pub record TakesStatement (front : List Token) : Type 0 where
+  pub token : Token
+  pub kind : token.kind ≡ kinds.Word w.KwPrint
+  pub begins : BeginsAtAnyDepth (front ++ token ∷ [])
+
+-- Here a field: the word Declare may stand there, which stands at the module's level, too, where a statement may begin.
+pub record TakesMember (front : List Token) : Type 0 where
+  pub token : Token
+  pub kind : token.kind ≡ kinds.Word w.KwDeclare
+  pub begins : BeginsAtAnyDepth (front ++ token ∷ [])
+
+-- a word that this profile doesn't have, where an operand, a type, a statement or a field may begin
+pub record RefusedThere (front : List Token) (t : Token) : Type 0 where
+  pub word : is_refused_kind t.kind ≡ true
+  pub here : TakesOperand front ⊎ TakesType front ⊎ TakesStatement front ⊎ TakesMember front
+
+-- Behind these tokens a statement, a member or an item may end: a colon or a line's end may stand there.
+pub record TakesEnd (front : List Token) : Type 0 where
+  pub token : Token
+  pub kind : (token.kind ≡ kinds.Colon) ⊎ (token.kind ≡ kinds.LineEnd)
+  pub begins : Begins (front ++ token ∷ [])
+
+-- What is wrong with a token: it is such a word; or else only the depth forbids it; or else an end would do in its place;
+-- or else another token is required.
+abbrev pub HasKind : List Token → Token → FaultKind → Type 0
+HasKind front t OutOfProfile = RefusedThere front t
+HasKind front t DeepNesting = (RefusedThere front t → ⊥) × BeginsAtAnyDepth (front ++ t ∷ [])
+HasKind front t ExtraText = (RefusedThere front t → ⊥) × (BeginsAtAnyDepth (front ++ t ∷ []) → ⊥) × TakesEnd front
+HasKind front t Expected = (RefusedThere front t → ⊥) × (BeginsAtAnyDepth (front ++ t ∷ []) → ⊥) × (TakesEnd front → ⊥)
+HasKind front t kind = ⊥
+
+-- what each kind tells of its place by itself
+abbrev pub Tells : List Token → Token → FaultKind → Type 0
+Tells front t OutOfProfile = RefusedThere front t
+Tells front t DeepNesting = BeginsAtAnyDepth (front ++ t ∷ [])
+Tells front t ExtraText = TakesEnd front
+Tells front t Expected = Unit {0}
+Tells front t kind = ⊥
 
 -- Why tokens have no tree: want of memory; or they are no text, and this is the first fault.
 abbrev pub Fails : TokenList → ParseErr → Type 0
