@@ -15,9 +15,12 @@ mod Heads
 mod Procs
 mod Types
 mod Whole
+mod Odd
 mod Alike
 mod AlikeParts
 mod AlikeEnds
+mod AlikePrint
+mod AlikeBlocks
 mod AlikeStmts
 mod AlikeTexts
 mod EarlyFaults
@@ -34,4 +37,5 @@ mod GrowTexts
 mod AtEnds
 mod EndTexts
 mod LateFaults
+mod KindFaults
 mod Fields
