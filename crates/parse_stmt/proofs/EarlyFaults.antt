@@ -2,7 +2,7 @@
 use Rattle.std.proofs.Common.{◌≡◌, ℕ, suc, ◌+◌, List, [], ◌∷◌, ◌++◌, length, Some, Ok, Err, refl, sym, ap, ◌∙◌, subst, inl, inr, arith, append-nil, append_assoc}
 use Rattle.fb_base.specs.declared.fault.Fault.{Fault}
 use Rattle.fb_base.specs.declared.fault.FaultKind.{FaultKind}
-use Rattle.fb_base.specs.declared.fault.FaultKind.TheVariants.{DeepNesting, Expected}
+use Rattle.fb_base.specs.declared.fault.FaultKind.TheVariants.{DeepNesting, Expected, ExtraText}
 use Rattle.fb_lexer.specs.TokenList.{TokenList}
 use Rattle.fb_lexer.specs.declared.token.Token.{Token}
 use Rattle.fb_ast.specs.declared.tree.Tree.{Tree}
@@ -21,14 +21,15 @@ use Rattle.parse_stmt.specs.Module.{module_}
 use Rattle.parse_stmt.specs.Texts.{IsTextWithin}
 use Rattle.parse_stmt.specs.Faults.{Begins, BeginsDeeper, FirstAt}
 use Rattle.parse_stmt.proofs.Whole.{items_finds, with_items}
+use Rattle.parse_stmt.proofs.Odd.{Ended}
 use Rattle.parse_stmt.proofs.Alike.{at_place}
 use Rattle.parse_stmt.proofs.AlikeTexts.{twin_module}
 
-abbrev no_items : Found
+abbrev pub no_items : Found
 no_items = record { items = []; tokens = 0 }
 
 -- a text is read at its depth
-text_is_read : (deep room : ℕ) (ts : List Token) (last_line : ℕ) (tree : Tree) → IsTextWithin (suc deep) room ts last_line tree → module_ (suc deep) room ts ≡ Ok (with_items no_items tree.items tree.tokens, [])
+pub text_is_read : (deep room : ℕ) (ts : List Token) (last_line : ℕ) (tree : Tree) → IsTextWithin (suc deep) room ts last_line tree → module_ (suc deep) room ts ≡ Ok (with_items no_items tree.items tree.tokens, [])
 unfolding module_
 text_is_read deep room ts last_line tree t = items_finds deep room (length ts + 1) no_items ts tree.items tree.tokens t.0 (omega arith)
 
@@ -42,14 +43,14 @@ first_is : (t : Token) (more : List Token) → first (t ∷ more) ≡ Some t
 unfolding first
 first_is t more = refl
 
-deeper_by : (n : ℕ) → 200 + n ≡ suc (199 + n)
+pub deeper_by : (n : ℕ) → 200 + n ≡ suc (199 + n)
 deeper_by n = omega arith
 
 module _ (front s : List Token) (t : Token) (kind : FaultKind) (is : module_ 200 199 (front ++ t ∷ s) ≡ Err (stops.Fault kind, t ∷ s)) where
-  clashes : (L : FaultKind → Type 0) (deep room : ℕ) → Rooms L 200 (suc deep) → Rooms L 199 room → (L kind → ⊥) → (more : List Token) (last_line : ℕ) (tree : Tree) → IsTextWithin (suc deep) room (front ++ t ∷ more) last_line tree → ⊥
-  clashes L deep room rooms depths never more last_line tree text =
-      let place = at_place L t s (t ∷ more) (first_is t more) in
-      let near = (twin_module L t s (t ∷ more) (first_is t more) 199 deep rooms 199 room depths).near (front ++ t ∷ s) (front ++ t ∷ more) (alike L t s (t ∷ more) place front) in
+  clashes : (L : FaultKind → Type 0) (deep room : ℕ) → Rooms L 200 (suc deep) → Rooms L 199 room → ((u : Token) → Ended L u → 199 ≡ room) → (L kind → ⊥) → (more : List Token) (last_line : ℕ) (tree : Tree) → IsTextWithin (suc deep) room (front ++ t ∷ more) last_line tree → ⊥
+  clashes L deep room rooms depths even never more last_line tree text =
+      let place = at_place L t s (t ∷ more) (inl (first_is t more)) in
+      let near = (twin_module L t s (t ∷ more) (inl (first_is t more)) 199 deep rooms 199 room depths even).near (front ++ t ∷ s) (front ++ t ∷ more) (alike L t s (t ∷ more) place front) in
       clash L t s (t ∷ more) place kind (module_ (suc deep) room (front ++ t ∷ more)) (with_items no_items tree.items tree.tokens)
       (subst (λ (o : Outcome Found). Near L t s (t ∷ more) place o (module_ (suc deep) room (front ++ t ∷ more))) is near) never (text_is_read deep room (front ++ t ∷ more) last_line tree text)
 
@@ -57,11 +58,11 @@ module _ (front s : List Token) (t : Token) (kind : FaultKind) (is : module_ 200
   joined most room more last_line tree text = subst (λ (xs : List Token). IsTextWithin most room xs last_line tree) (append_assoc front (t ∷ []) more) text
 
   pub none_here : Begins (front ++ t ∷ []) → ⊥
-  none_here b = clashes Never 199 199 (inl refl) (inl refl) (λ never. never) b.more b.last_line b.tree (joined 200 199 b.more b.last_line b.tree b.are)
+  none_here b = clashes Never 199 199 (inl refl) (inl refl) (λ u e. refl) (λ never. never) b.more b.last_line b.tree (joined 200 199 b.more b.last_line b.tree b.are)
 
   pub none_deeper : (kind ≡ DeepNesting → ⊥) → (more_deep more_room : ℕ) → BeginsDeeper more_deep more_room (front ++ t ∷ []) → ⊥
   none_deeper other more_deep more_room b =
-      clashes OnlyDeep (199 + more_deep) (199 + more_room) (inr (refl, omega arith)) (inr (refl, omega arith)) other b.more b.last_line b.tree
+      clashes OnlyDeep (199 + more_deep) (199 + more_room) (inr (refl, omega arith)) (inr (refl, omega arith)) (λ u e. let bad : ExtraText ≡ DeepNesting = e.ends.extra in cc) other b.more b.last_line b.tree
       (subst (λ (n : ℕ). IsTextWithin n (199 + more_room) (front ++ t ∷ b.more) b.last_line b.tree) (deeper_by more_deep) (joined (200 + more_deep) (199 + more_room) b.more b.last_line b.tree b.are))
 
 abbrev kind_in : FaultKind → ParseErr → FaultKind

@@ -15,9 +15,12 @@ mod Heads
 mod Procs
 mod Types
 mod Whole
+mod Odd
 mod Alike
 mod AlikeParts
 mod AlikeEnds
+mod AlikePrint
+mod AlikeBlocks
 mod AlikeStmts
 mod AlikeTexts
 mod EarlyFaults
@@ -42,4 +45,5 @@ mod AtEnds
 mod EndTexts
 mod LateFaults
 mod Answered
+mod KindFaults
 mod Fields
