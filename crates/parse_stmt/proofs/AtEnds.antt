@@ -1,8 +1,8 @@
--- Where the tokens end too early, something is Expected.
-use Rattle.std.proofs.Common.{◌≡◌, ◌≤◌, ℕ, zero, suc, ◌+◌, Bool, true, false, if◌then◌else◌, List, [], ◌∷◌, length, Option, Some, None, Ok, Err, refl, sym, ◌∙◌, arith}
+-- Where the tokens end too early, something is Expected; and DeepNesting is told of no word that this profile doesn't have.
+use Rattle.std.proofs.Common.{◌≡◌, ◌≤◌, ℕ, zero, suc, ◌+◌, Bool, true, false, if◌then◌else◌, List, [], ◌∷◌, length, Option, Some, None, Ok, Err, refl, sym, ap, subst, ◌∙◌, inl, inr, arith}
 use Rattle.fb_base.specs.declared.fault.Span.{Span}
 use Rattle.fb_base.specs.declared.fault.FaultKind.{FaultKind}
-use Rattle.fb_base.specs.declared.fault.FaultKind.TheVariants.{Expected, DeepNesting, OutOfProfile}
+use Rattle.fb_base.specs.declared.fault.FaultKind.TheVariants.{Expected, ExtraText, DeepNesting, OutOfProfile}
 use Rattle.fb_lexer.specs.declared.token.Token.{Token}
 use Rattle.fb_lexer.specs.declared.token.TokenKind.{TokenKind}
 use Rattle.fb_lexer.specs.declared.token.TokenKind.TheVariants as kinds
@@ -12,38 +12,79 @@ use Rattle.fb_lexer.specs.declared.word.Word.{Word}
 use Rattle.fb_lexer.specs.declared.word.Word.TheVariants as w
 use Rattle.fb_ast.specs.declared.ty.Base.{Base}
 use Rattle.parse_expr.specs.declared.stop.Stop.TheVariants as stops
-use Rattle.parse_expr.specs.Reading.{first, next, sees, sees_word, expect, expect_word, refusal, Outcome, Reader, and_then, pure, stop, take_token}
+use Rattle.parse_expr.specs.Reading.{first, next, holds, sees, sees_word, expect, expect_word, refusal, Outcome, Reader, and_then, pure, stop, take_token}
 use Rattle.parse_expr.specs.Types.{type_from, type_at, type_name, name_by, name_at, name}
 use Rattle.parse_expr.specs.Expr.{expr, Measured}
+use Rattle.parse_expr.specs.Faults.{is_refused_kind}
+use Rattle.parse_expr.proofs.Refused.{nowhere, refusals}
 use Rattle.parse_expr.proofs.Fills.{Failed, FaultOf, Next, failed_pure, map_failed}
 use Rattle.parse_expr.proofs.Begun.{begun}
 use Rattle.parse_expr.proofs.Rowed.{NoRoom, Whole}
 use Rattle.parse_stmt.specs.declared.kinds.Line.{Line}
-use Rattle.parse_stmt.specs.Steps.{here, astray, extra, sees_sep, sep, whole, place, pass_by, no_value, sees_value, any_value, value_behind, initial, sees_name, any_name, any_type, Turn, repeat, all_of, comma_behind}
+use Rattle.parse_stmt.specs.Steps.{here, kind_or, astray, extra, sees_sep, sep, whole, place, pass_by, no_value, sees_value, any_value, value_behind, initial, sees_name, any_name, any_type, Turn, repeat, all_of, comma_behind}
+
+-- the next token isn't a word that this profile doesn't have
+abbrev pub IsPlain : List Token → Type 0
+IsPlain ts = holds is_refused_kind (first ts) ≡ false
 
 abbrev pub AtEnd : FaultKind → List Token → Type 0
-AtEnd kind rest = rest ≡ [] → kind ≡ Expected
+AtEnd kind rest = (rest ≡ [] → kind ≡ Expected) × (kind ≡ DeepNesting → IsPlain rest)
 
--- What a reader is told where the tokens end too early is Expected.
+-- What a reader tells is such a fault.
 pub record Early {A : Type 0} (p : Reader A) : Type 0 where
   pub at : (ts : List Token) → Failed AtEnd (p ts)
 
 -- ---- faults
 
-refusal_end : (ts : List Token) → ts ≡ [] → refusal ts ≡ Expected
+pub expected_end : (ts : List Token) → AtEnd Expected ts
+expected_end ts = (λ is. refl, λ deep. cc)
+
+refusal_deep : (ts : List Token) → refusal ts ≡ DeepNesting → IsPlain ts
 unfolding refusal first
-refusal_end [] is = refl
-refusal_end (t ∷ ts) is = cc
+refusal_deep [] deep = cc
+refusal_deep (t ∷ ts) deep = elim (refusals t.kind) [
+  | inl e ↦ (let bad : Expected ≡ DeepNesting = sym e ∙ deep in cc)
+  | inr e ↦ (let bad : OutOfProfile ≡ DeepNesting = sym e.0 ∙ deep in cc)
+]
 
-pub astray_end : (kind : FaultKind) (ts : List Token) → ts ≡ [] → astray kind ts ≡ Expected
+refusal_early : (ts : List Token) → ts ≡ [] → refusal ts ≡ Expected
+unfolding refusal first
+refusal_early [] is = refl
+refusal_early (t ∷ ts) is = cc
+
+refusal_end : (ts : List Token) → AtEnd (refusal ts) ts
+refusal_end ts = (refusal_early ts, refusal_deep ts)
+
+astray_by : (kind : FaultKind) (t : Token) (ts : List Token) (b : Bool) → is_refused_kind t.kind ≡ b → astray kind (t ∷ ts) ≡ DeepNesting → b ≡ false
+unfolding astray refusal first
+astray_by kind t ts false word deep = refl
+astray_by kind t ts true word deep = let bad : OutOfProfile ≡ DeepNesting = sym (ap (kind_or kind) (nowhere t.kind word).refusal) ∙ deep in cc
+
+astray_deep : (kind : FaultKind) (ts : List Token) → astray kind ts ≡ DeepNesting → IsPlain ts
 unfolding astray first
-astray_end kind [] is = refl
-astray_end kind (t ∷ ts) is = cc
+astray_deep kind [] deep = refl
+astray_deep kind (t ∷ ts) deep = astray_by kind t ts (is_refused_kind t.kind) refl deep
 
-pub extra_end : (ts : List Token) → ts ≡ [] → extra ts ≡ Expected
+astray_early : (kind : FaultKind) (ts : List Token) → ts ≡ [] → astray kind ts ≡ Expected
+unfolding astray first
+astray_early kind [] is = refl
+astray_early kind (t ∷ ts) is = cc
+
+pub astray_end : (kind : FaultKind) (ts : List Token) → AtEnd (astray kind ts) ts
+astray_end kind ts = (astray_early kind ts, astray_deep kind ts)
+
+extra_early : (ts : List Token) → ts ≡ [] → extra ts ≡ Expected
 unfolding extra first
-extra_end [] is = refl
-extra_end (t ∷ ts) is = cc
+extra_early [] is = refl
+extra_early (t ∷ ts) is = cc
+
+extra_deep : (ts : List Token) → extra ts ≡ DeepNesting → IsPlain ts
+unfolding extra first
+extra_deep [] deep = refl
+extra_deep (t ∷ ts) deep = cc
+
+pub extra_end : (ts : List Token) → AtEnd (extra ts) ts
+extra_end ts = (extra_early ts, extra_deep ts)
 
 -- ---- the steps that readers are made of
 
@@ -78,10 +119,10 @@ pub e_here : Early here
 e_here = record { at = λ ts. tt }
 
 pub e_stop : {A : Type 0} → Early {A = A} (stop Expected)
-e_stop = record { at = λ ts is. refl }
+e_stop = record { at = λ ts. expected_end ts }
 
 pub e_refuse : {A : Type 0} → Early {A = A} (λ ts. Err (stops.Fault (refusal ts), ts))
-e_refuse = record { at = λ ts is. refusal_end ts is }
+e_refuse = record { at = λ ts. refusal_end ts }
 
 pub e_choose : {A : Type 0} (test : List Token → Bool) {p q : Reader A} → Early p → Early q → Early (λ ts. if test ts then p ts else q ts)
 e_choose test x y = record { at = λ ts. test_end (test ts) _ _ (x.at ts) (y.at ts) }
@@ -95,15 +136,15 @@ e_placed test at x y = record { at = λ ts. test_end (test ts) _ _ ((x (at ts)).
 
 pub e_expect : (mark : Mark) → Early (expect mark)
 unfolding expect
-e_expect mark = record { at = λ ts. test_end (sees mark ts) _ _ (tt) (λ e. refl) }
+e_expect mark = record { at = λ ts. test_end (sees mark ts) _ _ (tt) (expected_end ts) }
 
 pub e_expect_word : (word : Word) → Early (expect_word word)
 unfolding expect_word
-e_expect_word word = record { at = λ ts. test_end (sees_word word ts) _ _ (tt) (λ e. refl) }
+e_expect_word word = record { at = λ ts. test_end (sees_word word ts) _ _ (tt) (expected_end ts) }
 
 pub e_sep : (line : Line) → Early (sep line)
 unfolding sep
-e_sep line = record { at = λ ts. test_end (sees_sep line ts) _ _ (tt) (λ e. extra_end ts e) }
+e_sep line = record { at = λ ts. test_end (sees_sep line ts) _ _ (tt) (extra_end ts) }
 
 -- ---- rows of things
 
@@ -159,14 +200,24 @@ e_any_type = e_behind (sees_word w.KwAs) (e_made _ e_type) (e_pure None)
 
 -- ---- expressions
 
-next_end : (P : ℕ → List Token → Type 0) (front rest : List Token) (kind : FaultKind) → rest ≡ [] → Next P front rest kind → kind ≡ Expected
-next_end P front rest Expected is n = refl
-next_end P front rest DeepNesting is n = let bad : [] ≡ n.token ∷ n.behind = sym is ∙ n.is in cc
-next_end P front rest OutOfProfile is n = let bad : [] ≡ n.token ∷ n.behind = sym is ∙ n.is in cc
-next_end P front rest kind is n = absurd n
+next_early : (P : ℕ → List Token → Type 0) (front rest : List Token) (kind : FaultKind) → rest ≡ [] → Next P front rest kind → kind ≡ Expected
+next_early P front rest Expected is n = refl
+next_early P front rest DeepNesting is n = let bad : [] ≡ n.token ∷ n.behind = sym is ∙ n.is in cc
+next_early P front rest OutOfProfile is n = let bad : [] ≡ n.token ∷ n.behind = sym is ∙ n.is in cc
+next_early P front rest kind is n = absurd n
+
+plain_first : (t : Token) (ts : List Token) → is_refused_kind t.kind ≡ false → IsPlain (t ∷ ts)
+unfolding first
+plain_first t ts plain = plain
+
+next_deep : (P : ℕ → List Token → Type 0) (front rest : List Token) → Next P front rest DeepNesting → IsPlain rest
+next_deep P front rest n = subst IsPlain (sym n.is) (plain_first n.token n.behind n.plain)
+
+next_end : (P : ℕ → List Token → Type 0) (front rest : List Token) (kind : FaultKind) → Next P front rest kind → AtEnd kind rest
+next_end P front rest kind n = (λ is. next_early P front rest kind is n, λ deep. next_deep P front rest (subst (Next P front rest) deep n))
 
 expr_end : (most level : ℕ) → level ≤ 14 → (ts : List Token) → Failed AtEnd (expr most level ts)
-expr_end most level low ts = map_failed (FaultOf (NoRoom most) (Whole most level) ts) AtEnd (expr most level ts) (begun most level low ts) (λ kind rest f is. next_end (Whole most level) f.front rest kind is f.next)
+expr_end most level low ts = map_failed (FaultOf (NoRoom most) (Whole most level) ts) AtEnd (expr most level ts) (begun most level low ts) (λ kind rest f. next_end (Whole most level) f.front rest kind f.next)
 
 pub e_whole : (most : ℕ) → Early (whole most)
 unfolding whole
@@ -177,7 +228,7 @@ unfolding place
 e_place most = e_choose (sees At) e_stop (e_choose (sees Minus) e_stop (record { at = λ ts. failed_pure AtEnd (expr most 14 ts) (λ (x : Measured). x.0) (expr_end most 14 (omega arith) ts) }))
 
 pass_end : (kind : FaultKind) (ts : List Token) → refusal ts ≡ kind → Failed AtEnd (pass_by kind ts)
-pass_end OutOfProfile ts is = λ e. sym is ∙ refusal_end ts e
+pass_end OutOfProfile ts is = (λ e. sym is ∙ refusal_early ts e, λ deep. cc)
 pass_end kind ts is = tt
 
 pub e_no_value : Early no_value

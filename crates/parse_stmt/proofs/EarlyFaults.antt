@@ -19,7 +19,7 @@ use Rattle.parse_expr.proofs.Twins.{Rooms, Near}
 use Rattle.parse_stmt.specs.declared.kinds.Found.{Found}
 use Rattle.parse_stmt.specs.Module.{module_}
 use Rattle.parse_stmt.specs.Texts.{IsTextWithin}
-use Rattle.parse_stmt.specs.Faults.{Begins, BeginsDeeper, FirstAt}
+use Rattle.parse_stmt.specs.Faults.{Begins, BeginsDeeper, HasKind, FirstAt}
 use Rattle.parse_stmt.proofs.Whole.{items_finds, with_items}
 use Rattle.parse_stmt.proofs.Odd.{Ended}
 use Rattle.parse_stmt.proofs.Alike.{at_place}
@@ -75,13 +75,13 @@ fault_kind tokens fault kind rest is = ap (kind_in kind) is
 not_read : (p : Stop × List Token) (x : Found) (r : List Token) → ◌≡◌ {A = Outcome Found} (Err p) (Ok (x, r)) → ⊥
 not_read p x r is = cc
 
-at_rest : (tokens : TokenList) (kind : FaultKind) (rest : List Token) → module_ 200 199 tokens.items ≡ Err (stops.Fault kind, rest) → (e : Suffixes rest tokens.items) (t : Token) (behind : List Token) → rest ≡ t ∷ behind
+pub at_rest : (tokens : TokenList) (kind : FaultKind) (rest : List Token) → module_ 200 199 tokens.items ≡ Err (stops.Fault kind, rest) → (e : Suffixes rest tokens.items) (t : Token) (behind : List Token) → rest ≡ t ∷ behind
     → module_ 200 199 (e.front ++ t ∷ behind) ≡ Err (stops.Fault kind, t ∷ behind)
 at_rest tokens kind rest is e t behind rest_is =
     ap (module_ 200 199) (ap (λ (xs : List Token). e.front ++ xs) (sym rest_is) ∙ sym e.is) ∙ is ∙ ap (λ (xs : List Token). Err (stops.Fault kind, xs)) rest_is
 
-pub first_at : (tokens : TokenList) (fault : Fault) (kind : FaultKind) (rest : List Token) → module_ 200 199 tokens.items ≡ Err (stops.Fault kind, rest) → (e : Suffixes rest tokens.items) → Begins e.front → (rest ≡ [] → kind ≡ Expected) → error_of tokens.items (stops.Fault kind) rest ≡ errors.Fault fault → FirstAt tokens.items fault
-first_at tokens fault kind rest is e agrees ends answer =
+pub first_at : (tokens : TokenList) (fault : Fault) (kind : FaultKind) (rest : List Token) → module_ 200 199 tokens.items ≡ Err (stops.Fault kind, rest) → (e : Suffixes rest tokens.items) → Begins e.front → ((t : Token) (behind : List Token) → rest ≡ t ∷ behind → HasKind e.front t kind) → (rest ≡ [] → kind ≡ Expected) → error_of tokens.items (stops.Fault kind) rest ≡ errors.Fault fault → FirstAt tokens.items fault
+first_at tokens fault kind rest is e agrees kinds ends answer =
     let same_kind = fault_kind tokens.items fault kind rest answer in
     record {
       front = e.front;
@@ -90,6 +90,7 @@ first_at tokens fault kind rest is e agrees ends answer =
       agrees = agrees;
       none = λ t behind rest_is b. none_here e.front behind t kind (at_rest tokens kind rest is e t behind rest_is) b;
       no_deeper = λ t behind rest_is other more_deep more_room b. none_deeper e.front behind t kind (at_rest tokens kind rest is e t behind rest_is) (λ deep. other (sym same_kind ∙ deep)) more_deep more_room b;
+      kind_is = λ t behind rest_is. subst (HasKind e.front t) same_kind (kinds t behind rest_is);
       short = λ last_line tree rest_is text.
           let whole : tokens.items ≡ e.front = e.is ∙ ap (λ (xs : List Token). e.front ++ xs) rest_is ∙ append-nil e.front in
           not_read (stops.Fault kind, rest) (with_items no_items tree.items tree.tokens) []

@@ -1,9 +1,10 @@
--- Where a text ends too early, something is Expected.
-use Rattle.std.proofs.Common.{◌≡◌, ℕ, zero, suc, Bool, true, false, List, [], ◌∷◌, ◌++◌, Option, Some, None, is_some, Ok, Err, refl}
+-- Where a text ends too early, something is Expected; and DeepNesting is told of no word that this profile doesn't have.
+use Rattle.std.proofs.Common.{◌≡◌, ℕ, zero, suc, Bool, true, false, List, [], ◌∷◌, ◌++◌, Option, Some, None, is_some, Ok, Err, refl, sym, ◌∙◌}
 use Rattle.fb_base.specs.declared.fault.Span.{Span}
 use Rattle.fb_base.specs.declared.fault.FaultKind.{FaultKind}
-use Rattle.fb_base.specs.declared.fault.FaultKind.TheVariants.{Expected, ExtraText}
+use Rattle.fb_base.specs.declared.fault.FaultKind.TheVariants.{Expected, ExtraText, DeepNesting}
 use Rattle.fb_lexer.specs.declared.token.Token.{Token}
+use Rattle.fb_lexer.specs.declared.token.TokenKind.{TokenKind}
 use Rattle.fb_lexer.specs.declared.token.Mark.TheVariants.{Equal, Open, Close, Comma, Dot, Semicolon, OpenBracket, CloseBracket}
 use Rattle.fb_lexer.specs.declared.word.Word.{Word}
 use Rattle.fb_lexer.specs.declared.word.Word.TheVariants as w
@@ -35,6 +36,7 @@ use Rattle.fb_ast.specs.declared.stmt.Storage.TheVariants as storage
 use Rattle.fb_ast.specs.declared.stmt.Until.{Until}
 use Rattle.parse_expr.specs.Reading.{first, next, sees, sees_word, Reader, pure}
 use Rattle.parse_expr.specs.Reading as reading
+use Rattle.parse_expr.specs.Faults.{is_refused_kind}
 use Rattle.parse_stmt.specs.declared.kinds.Level.{Level}
 use Rattle.parse_stmt.specs.declared.kinds.Level.TheVariants as levels
 use Rattle.parse_stmt.specs.declared.kinds.Line.{Line}
@@ -54,7 +56,8 @@ use Rattle.parse_stmt.specs.Simple as m
 use Rattle.parse_stmt.specs.Blocks as b
 use Rattle.parse_stmt.specs.Procedures as p
 use Rattle.parse_stmt.specs.Module as t
-use Rattle.parse_stmt.proofs.AtEnds.{Early, astray_end, extra_end, test_end, more_end, e_then, e_must, e_next, e_pure, e_made, e_here, e_stop, e_refuse, e_choose, e_behind, e_placed, e_expect, e_expect_word, e_sep, e_all, e_comma, e_name, e_type, e_any_name, e_any_type, e_whole, e_place, e_no_value, e_any_value, e_value_behind, e_initial}
+use Rattle.parse_stmt.proofs.Odd.{refused_lead}
+use Rattle.parse_stmt.proofs.AtEnds.{Early, IsPlain, expected_end, astray_end, extra_end, test_end, more_end, e_then, e_must, e_next, e_pure, e_made, e_here, e_stop, e_refuse, e_choose, e_behind, e_placed, e_expect, e_expect_word, e_sep, e_all, e_comma, e_name, e_type, e_any_name, e_any_type, e_whole, e_place, e_no_value, e_any_value, e_value_behind, e_initial}
 
 module _ (most : ℕ) where
   -- ---- variables
@@ -218,7 +221,7 @@ module _ (most : ℕ) where
   module _ (inner : Spot → Reader Stmt) (room : ℕ) (i : (spot : Spot) → Early (inner spot)) where
     e_deep_end : (line : Line) → Early (b.deep_end line)
     unfolding b.deep_end b.behind_end
-    e_deep_end line = e_next {q = λ ts. Err (stops.Fault (b.behind_end line ts), ts)} (record { at = λ ts is. astray_end _ ts is })
+    e_deep_end line = e_next {q = λ ts. Err (stops.Fault (b.behind_end line ts), ts)} (record { at = λ ts. astray_end _ ts })
 
     e_block_turn : (level : Level) (line : Line) (closer : Closer) (found : List Stmt) → Early (b.block_turn most inner room level line closer found)
     unfolding b.block_turn b.block_stmt b.ended
@@ -270,7 +273,7 @@ module _ (most : ℕ) where
     e_if_by : (line : Line) (at : Span) (condition : Expr) (level : Level) → Early (b.if_by most inner room line at condition level)
     e_if_by lines.Free at condition level = e_if_row at condition level
     e_if_by lines.Row at condition level = e_if_row at condition level
-    e_if_by lines.Inner at condition level = record { at = λ ts is. extra_end ts is }
+    e_if_by lines.Inner at condition level = record { at = λ ts. extra_end ts }
 
     e_if : (at : Span) (level : Level) (line : Line) → Early (b.if_ most inner room at level line)
     unfolding b.if_ b.if_behind
@@ -324,7 +327,7 @@ module _ (most : ℕ) where
     e_led at spot leads.End = e_end at
     e_led at spot (leads.Call word) = e_called at word
     e_led at spot leads.Value = e_valued at
-    e_led at spot leads.Nothing = record { at = λ ts is. astray_end spot.other ts is }
+    e_led at spot leads.Nothing = record { at = λ ts. astray_end spot.other ts }
 
     e_statement_at : (spot : Spot) (o : Option Token) → Early (b.statement_at most inner room spot o)
     e_statement_at spot None = e_stop
@@ -334,14 +337,29 @@ module _ (most : ℕ) where
     unfolding b.statement
     e_statement spot = record { at = λ ts. (e_statement_at spot (first ts)).at ts }
 
-  deep_end_at : (spot : Spot) (ts : List Token) → ts ≡ [] → b.deep_at spot ts (first ts) ≡ Expected
+  deep_early : (spot : Spot) (ts : List Token) → ts ≡ [] → b.deep_at spot ts (first ts) ≡ Expected
   unfolding first
-  deep_end_at spot [] is = refl
-  deep_end_at spot (x ∷ ts) is = cc
+  deep_early spot [] is = refl
+  deep_early spot (x ∷ ts) is = cc
+
+  -- a word that the profile doesn't have begins no statement
+  lead_plain : (level : Level) (kind : TokenKind) (b : Bool) → is_refused_kind kind ≡ b → (lead_of level kind ≡ leads.Nothing → ⊥) → b ≡ false
+  lead_plain level kind true is never = absurd (never (refused_lead level kind is))
+  lead_plain level kind false is never = refl
+
+  deep_lead : (spot : Spot) (x : Token) (ts : List Token) (lead : Lead) → lead_of spot.level x.kind ≡ lead → b.deep_by spot (x ∷ ts) lead ≡ DeepNesting → IsPlain (x ∷ ts)
+  unfolding first
+  deep_lead spot x ts leads.Nothing is deep = (astray_end spot.other (x ∷ ts)).1 deep
+  deep_lead spot x ts lead is deep = lead_plain spot.level x.kind (is_refused_kind x.kind) refl (λ none. let bad : leads.Nothing ≡ lead = sym none ∙ is in cc)
+
+  deep_plain : (spot : Spot) (ts : List Token) → b.deep_at spot ts (first ts) ≡ DeepNesting → IsPlain ts
+  unfolding first
+  deep_plain spot [] deep = refl
+  deep_plain spot (x ∷ ts) deep = deep_lead spot x ts (lead_of spot.level x.kind) refl deep
 
   e_stmt : (room : ℕ) (spot : Spot) → Early (b.stmt most room spot)
   unfolding b.stmt b.no_room
-  e_stmt zero spot = record { at = λ ts is. deep_end_at spot ts is }
+  e_stmt zero spot = record { at = λ ts. (deep_early spot ts, deep_plain spot ts) }
   e_stmt (suc room) spot = e_statement (b.stmt most room) room (e_stmt room) spot
 
   -- ---- heads and Declares
@@ -441,7 +459,7 @@ module _ (most : ℕ) where
   e_member_turn : (found : List Member) → Early (t.member_turn most found)
   unfolding t.member_turn t.ended_member
   e_member_turn found = record {
-    at = λ ts. test_end (sees_word w.KwEnd ts) _ _ (test_end (t.has_field found) _ _ tt (λ is. refl)) ((e_then e_member (λ x. e_must (e_sep lines.Free) (e_pure (found ++ x ∷ [], true)))).at ts);
+    at = λ ts. test_end (sees_word w.KwEnd ts) _ _ (test_end (t.has_field found) _ _ tt (expected_end ts)) ((e_then e_member (λ x. e_must (e_sep lines.Free) (e_pure (found ++ x ∷ [], true)))).at ts);
   }
 
   e_type_def : Early (t.type_def most)

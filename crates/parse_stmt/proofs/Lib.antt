@@ -41,9 +41,10 @@ mod GrowStmts
 mod GrowLeads
 mod GrowTexts
 mod Reasons
+mod KindFaults
 mod AtEnds
 mod EndTexts
 mod LateFaults
 mod Answered
-mod KindFaults
+mod OneFault
 mod Fields

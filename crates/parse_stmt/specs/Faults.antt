@@ -28,20 +28,6 @@ pub record BeginsDeeper (more_deep more_room : ℕ) (ts : List Token) : Type 0 w
   pub tree : Tree
   pub are : IsTextWithin (200 + more_deep) (199 + more_room) (ts ++ more) last_line tree
 
--- The first token up to which no text agrees with the tokens: some text begins with those before it, and none with its
--- token too, not even a deeper one, unless only the depth is wrong. Where there is no such token those before it are no text.
--- The fault stands at that token, or at the last one, where something more is Expected.
-pub record FirstAt (tokens : List Token) (fault : Fault) : Type 0 where
-  pub front : List Token
-  pub rest : List Token
-  pub is : tokens ≡ front ++ rest
-  pub agrees : Begins front
-  pub none : (t : Token) (behind : List Token) → rest ≡ t ∷ behind → Begins (front ++ t ∷ []) → ⊥
-  pub no_deeper : (t : Token) (behind : List Token) → rest ≡ t ∷ behind → fault.kind ≢ DeepNesting → (more_deep more_room : ℕ) → BeginsDeeper more_deep more_room (front ++ t ∷ []) → ⊥
-  pub short : (last_line : ℕ) (tree : Tree) → rest ≡ [] → IsText front last_line tree → ⊥
-  pub ends : rest ≡ [] → fault.kind ≡ Expected
-  pub place_is : fault.at ≡ fault_place tokens rest
-
 -- ---- the kind of a fault
 
 -- tokens that some text begins with, however deep
@@ -102,6 +88,22 @@ Tells front t DeepNesting = BeginsAtAnyDepth (front ++ t ∷ [])
 Tells front t ExtraText = TakesEnd front
 Tells front t Expected = Unit {0}
 Tells front t kind = ⊥
+
+-- The first token up to which no text agrees with the tokens: some text begins with those before it, and none with its
+-- token too, not even a deeper one, unless only the depth is wrong. It is wrong in the way that the fault's kind says. Where
+-- there is no such token those before it are no text, and something more is Expected. The fault stands at that token, or at
+-- the last one of all.
+pub record FirstAt (tokens : List Token) (fault : Fault) : Type 0 where
+  pub front : List Token
+  pub rest : List Token
+  pub is : tokens ≡ front ++ rest
+  pub agrees : Begins front
+  pub none : (t : Token) (behind : List Token) → rest ≡ t ∷ behind → Begins (front ++ t ∷ []) → ⊥
+  pub no_deeper : (t : Token) (behind : List Token) → rest ≡ t ∷ behind → fault.kind ≢ DeepNesting → (more_deep more_room : ℕ) → BeginsDeeper more_deep more_room (front ++ t ∷ []) → ⊥
+  pub kind_is : (t : Token) (behind : List Token) → rest ≡ t ∷ behind → HasKind front t fault.kind
+  pub short : (last_line : ℕ) (tree : Tree) → rest ≡ [] → IsText front last_line tree → ⊥
+  pub ends : rest ≡ [] → fault.kind ≡ Expected
+  pub place_is : fault.at ≡ fault_place tokens rest
 
 -- Why tokens have no tree: want of memory; or they are no text, and this is the first fault.
 abbrev pub Fails : TokenList → ParseErr → Type 0

@@ -23,8 +23,15 @@ pub fn one_text()
     ensures { (tokens : TokenList) (one other : Tree) → IsText tokens.items tokens.last_line one → IsText tokens.items tokens.last_line other → one ≡ other }
 {}
 
-/// A fault stands at the first token up to which no text agrees with the tokens, or at the last one where they end too
-/// early, and then it is Expected. Not even a deeper text goes on there, unless the depth is what is wrong.
-pub fn fault_places()
+/// The fault that is told is the first one by the grammar: it stands at the first token up to which no text agrees with the
+/// tokens, or at the last one where they end too early. Its kind is the one that the grammar gives: OutOfProfile at a word
+/// that this profile doesn't have, where a statement, a type, a field or an operand may begin; or else DeepNesting where only
+/// the depth forbids the token; or else ExtraText where an end would do in its place; or else Expected.
+pub fn first_fault()
     ensures { (tokens : TokenList) (fault : Fault) → tree_of tokens ≡ Err (errors.Fault fault) → FirstAt tokens.items fault }
+{}
+
+/// The first fault by the grammar is told. So there is one at most, and none where a text is read.
+pub fn faults_found()
+    ensures { (tokens : TokenList) (fault : Fault) → FirstAt tokens.items fault → tree_of tokens ≡ Err (errors.Fault fault) }
 {}

@@ -23,5 +23,5 @@ pub use kinds::{
     continue_of, ends_with_end, exit_of, is_sep, lead_of, level_within, line_within, operator_of,
     until_of,
 };
-pub use laws::{fault_places, one_text, texts_found, texts_read};
+pub use laws::{faults_found, first_fault, one_text, texts_found, texts_read};
 pub use reading::parse;

@@ -1,5 +1,5 @@
 use Rattle.parse_stmt.proofs.LateFaults.{found_first}
-use Rattle.parse_stmt.proofs.laws.fault_places.Goals as goal
+use Rattle.parse_stmt.proofs.laws.first_fault.Goals as goal
 
 pub returns : goal.returns
 returns c = found_first
