@@ -279,103 +279,102 @@ fn strings_in_types(rt: HostRuntime) -> Result<(), Fail> {
 }
 
 // The kind and the place of the first fault of a module's Types.
-fn fault_of(alloc: Global, types: &[Lines<'_>]) -> Result<Option<(FaultKind, u32, u32)>, NoMemory> {
-    let mut items = Items::new(alloc);
-    for one in types {
-        items.push(one_type(alloc, *one)?)?;
-    }
-    match of(alloc, &module(items)) {
+fn fault_of(alloc: Global, types: Items<Item>) -> Result<Option<(FaultKind, u32, u32)>, NoMemory> {
+    match of(alloc, &module(types)) {
         Ok(_) => Ok(None),
         Err(TypeErr::NoMemory) => Err(NoMemory),
         Err(TypeErr::Fault(fault)) => Ok(Some((fault.kind, fault.at.line, fault.at.col))),
     }
 }
 
-#[test]
-fn faults_of_types(rt: HostRuntime) -> Result<(), Fail> {
-    let alloc = rt.alloc();
-    let one = Number(1);
-    for (kind, line, col, types) in &[
-        // a second Type, and a second field, of one name
-        (
-            FaultKind::Twice,
-            3,
-            AT_NAME,
-            &[
-                Lines(1, b"t", &[Line(2, b"a", None, BYTE)]),
-                Lines(3, b"t", &[Line(4, b"a", None, BYTE)]),
-            ][..],
-        ),
-        (
-            FaultKind::Twice,
-            3,
-            AT_NAME,
-            &[Lines(
-                1,
-                b"t",
-                &[Line(2, b"a", None, BYTE), Line(3, b"a", None, LONG)],
-            )][..],
-        ),
-        (
-            FaultKind::Unknown,
-            2,
-            AT_TYPE,
-            &[Lines(1, b"t", &[Line(2, b"a", None, Of(b"u"))])][..],
-        ),
-        (
-            FaultKind::NotAType,
-            2,
-            AT_TYPE,
-            &[Lines(1, b"t", &[Line(2, b"a", None, Any)])][..],
-        ),
-        (
-            FaultKind::TypeCycle,
-            1,
-            AT_NAME,
-            &[Lines(1, b"t", &[Line(2, b"a", Some((one, one)), Of(b"t"))])][..],
-        ),
-        // of three Types the first one in the text that contains itself
-        (
-            FaultKind::TypeCycle,
-            3,
-            AT_NAME,
-            &[
-                Lines(1, b"before", &[Line(2, b"a", None, Of(b"t"))]),
-                Lines(3, b"t", &[Line(4, b"a", None, Of(b"u"))]),
-                Lines(5, b"u", &[Line(6, b"a", None, Of(b"v"))]),
-                Lines(7, b"v", &[Line(8, b"a", None, Of(b"t"))]),
-            ][..],
-        ),
-        (
-            FaultKind::BadBounds,
-            2,
-            AT_LOW,
-            &[Lines(1, b"t", &[Line(2, b"a", Some((one, Minus(1))), BYTE)])][..],
-        ),
-        (
-            FaultKind::BadBounds,
-            2,
-            AT_HIGH,
-            &[Lines(1, b"t", &[Line(2, b"a", Some((one, ByZero)), BYTE)])][..],
-        ),
-        (
-            FaultKind::BigPlace,
-            1,
-            AT_NAME,
-            &[Lines(
-                1,
-                b"t",
-                &[Line(2, b"a", Some((Number(0), Number(16777216))), BYTE)],
-            )][..],
-        ),
-    ] {
-        let found = fault_of(alloc, types)?;
-        assert!(rt;
-            found == Some((*kind, *line, *col)),
-            "a fault on line {line}"
-        );
-    }
+// Types with a first fault of this kind at this place.
+fn at_fault(
+    rt: &impl Abort,
+    alloc: Global,
+    place: (FaultKind, u32, u32),
+    types: Items<Item>,
+) -> Result<(), Fail> {
+    let found = fault_of(alloc, types)?;
+    assert!(rt; found == Some(place));
     Ok(())
+}
+
+// A Type of one field, on the next line.
+fn around(
+    alloc: Global,
+    line: u32,
+    text: &[u8],
+    range: Option<(Bound, Bound)>,
+    said: Said<'_>,
+) -> Result<Item, NoMemory> {
+    let only = Line(line.saturating_add(1), b"a", range, said);
+    one_type(alloc, Lines(line, text, &[only]))
+}
+
+// A Type of one field alone has a first fault of this kind at this place.
+fn alone_at_fault(
+    rt: &impl Abort,
+    alloc: Global,
+    place: (FaultKind, u32, u32),
+    range: Option<(Bound, Bound)>,
+    said: Said<'_>,
+) -> Result<(), Fail> {
+    let mut types = Items::new(alloc);
+    types.push(around(alloc, 1, b"t", range, said)?)?;
+    at_fault(rt, alloc, place, types)
+}
+
+#[test]
+fn one_field_at_fault(rt: HostRuntime) -> Result<(), Fail> {
+    let alloc = rt.alloc();
+    let unknown = (FaultKind::Unknown, 2, AT_TYPE);
+    alone_at_fault(&rt, alloc, unknown, None, Of(b"u"))?;
+    let no_type = (FaultKind::NotAType, 2, AT_TYPE);
+    alone_at_fault(&rt, alloc, no_type, None, Any)?;
+    let turned = Some((Number(1), Minus(1)));
+    let low = (FaultKind::BadBounds, 2, AT_LOW);
+    alone_at_fault(&rt, alloc, low, turned, BYTE)?;
+    let divided = Some((Number(1), ByZero));
+    let high = (FaultKind::BadBounds, 2, AT_HIGH);
+    alone_at_fault(&rt, alloc, high, divided, BYTE)?;
+    let large = Some((Number(0), Number(16777216)));
+    let big = (FaultKind::BigPlace, 1, AT_NAME);
+    alone_at_fault(&rt, alloc, big, large, BYTE)?;
+    let single = Some((Number(1), Number(1)));
+    let circle = (FaultKind::TypeCycle, 1, AT_NAME);
+    alone_at_fault(&rt, alloc, circle, single, Of(b"t"))
+}
+
+#[test]
+fn second_names(rt: HostRuntime) -> Result<(), Fail> {
+    let alloc = rt.alloc();
+    let twice = (FaultKind::Twice, 3, AT_NAME);
+    let mut types = Items::new(alloc);
+    types.push(around(alloc, 1, b"t", None, BYTE)?)?;
+    types.push(around(alloc, 3, b"t", None, BYTE)?)?;
+    at_fault(&rt, alloc, twice, types)?;
+    let mut members = Items::new(alloc);
+    members.push(field(alloc, Line(2, b"a", None, BYTE))?)?;
+    members.push(field(alloc, Line(3, b"a", None, LONG))?)?;
+    let at = Span {
+        line: 1,
+        col: AT_NAME,
+    };
+    let mut types = Items::new(alloc);
+    types.push(Item::Type(at, named(alloc, 1, b"t")?, members))?;
+    at_fault(&rt, alloc, twice, types)
+}
+
+// Of three Types the first one in the text that contains itself has the fault, and not one before that contains it.
+#[test]
+fn a_circle_of_three(rt: HostRuntime) -> Result<(), Fail> {
+    let alloc = rt.alloc();
+    let mut types = Items::new(alloc);
+    types.push(around(alloc, 1, b"before", None, Of(b"t"))?)?;
+    types.push(around(alloc, 3, b"t", None, Of(b"u"))?)?;
+    types.push(around(alloc, 5, b"u", None, Of(b"v"))?)?;
+    types.push(around(alloc, 7, b"v", None, Of(b"t"))?)?;
+    at_fault(&rt, alloc, (FaultKind::TypeCycle, 3, AT_NAME), types)
 }
 
 #[test]
