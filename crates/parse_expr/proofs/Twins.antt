@@ -60,12 +60,40 @@ weak_free t (inr n) = record {
   pointer = ap is_pointer n;
 }
 
--- The second list has nothing at the place, or something that is an operand or a type alone, where the first one has a
--- word that this profile doesn't have. L has the kinds of faults that may stand at the place in the first reading alone.
+-- an error at the first token
+pub record ErrAt {A : Type 0} (o : Outcome A) (ts : List Token) : Type 0 where
+  pub stop : Stop
+  pub is : o ≡ Err (stop, ts)
+
+-- what comes next begins nothing
+pub record Empty (o : Option Token) : Type 0 where
+  pub no_type : (ts : List Token) → ErrAt (type_at o ts) ts
+  pub no_operand : (room least : ℕ) (ts : List Token) → ErrAt (operand_at (expr room) room least o ts) ts
+  pub no_begin : (least : ℕ) → begins least o ≡ false
+
+empty_none : Empty None
+empty_none = record { no_type = λ ts. record { stop = stops.Fault (refusal ts); is = refl }; no_operand = λ room least ts. record { stop = stops.Fault (refusal ts); is = refl }; no_begin = λ least. refl }
+
+empty_by : (u : Token) → base_of u.kind ≡ None → prefix_of u.kind ≡ None → ((at : Span) → start_of at u.kind ≡ Nothing) → Empty (Some u)
+unfolding primary
+empty_by u b p st = record {
+  no_type = λ ts. record { stop = stops.Fault (refusal ts); is = rw b refl };
+  no_operand = λ room least ts. record { stop = stops.Fault (refusal ts); is = rw (p, st u.at) refl };
+  no_begin = λ least. rw (p, st (record { line = 1; col = 1 })) refl;
+}
+
+-- an end of a statement
+pub empty_end : (u : Token) → (u.kind ≡ kinds.Colon) ⊎ (u.kind ≡ kinds.LineEnd) → Empty (Some u)
+empty_end u (inl e) = empty_by u (ap base_of e) (ap prefix_of e) (λ at. ap (start_of at) e)
+empty_end u (inr e) = empty_by u (ap base_of e) (ap prefix_of e) (λ at. ap (start_of at) e)
+
+-- The second list has at the place nothing, or something that begins nothing, or something that is an operand or a type
+-- alone, where the first one has a word that this profile doesn't have. L has the kinds of faults that may stand at the
+-- place in the first reading alone.
 pub record Gap (L : FaultKind → Type 0) (t : Token) (v : List Token) : Type 0 where
   pub weak : Weak (first v)
   pub deep : L DeepNesting
-  pub nothing : (first v ≡ None) ⊎ (L OutOfProfile × (is_refused_kind t.kind ≡ true))
+  pub nothing : Empty (first v) ⊎ (L OutOfProfile × (is_refused_kind t.kind ≡ true))
 
 -- the same token stands there in both lists, or there is a gap
 abbrev pub Place : (FaultKind → Type 0) → Token → List Token → Type 0
@@ -77,7 +105,7 @@ same_place L t more = inl refl
 
 pub cut_place : (L : FaultKind → Type 0) (t : Token) → L DeepNesting → Place L t []
 unfolding first
-cut_place L t deep = inr (record { weak = weak_none; deep = deep; nothing = inl refl })
+cut_place L t deep = inr (record { weak = weak_none; deep = deep; nothing = inl empty_none })
 
 pub other_place : (L : FaultKind → Type 0) (t u : Token) (more : List Token) → L DeepNesting → L OutOfProfile → is_refused_kind t.kind ≡ true → IsFree u → Place L t (u ∷ more)
 unfolding first
@@ -103,11 +131,6 @@ zero_guards L room other (inr more) = inr (more.0, zero_later room other more.1)
 lt_guards : (L : FaultKind → Type 0) (room other n : ℕ) → Rooms L room other → Guards L (nat_lt room n) (nat_lt other n)
 lt_guards L room other n (inl is) = inl (ap (λ (m : ℕ). nat_lt m n) is)
 lt_guards L room other n (inr more) = inr (more.0, lt_later room other n more.1)
-
--- an error at the first token
-pub record ErrAt {A : Type 0} (o : Outcome A) (ts : List Token) : Type 0 where
-  pub stop : Stop
-  pub is : o ≡ Err (stop, ts)
 
 -- Two lists of tokens with one front, and what stands behind it in each.
 module _ (L : FaultKind → Type 0) (t : Token) (s v : List Token) (place : Place L t v) where
@@ -259,7 +282,7 @@ module _ (L : FaultKind → Type 0) (t : Token) (s v : List Token) (place : Plac
   loose_refusal A out word = let n = nowhere t.kind word in inr (subst (λ (k : FaultKind). L k) (sym n.refusal) out)
 
   -- a refusal at the place, where the second reading refuses nothing at all
-  pub refuse_near : {A : Type 0} (other : Outcome A) → Gap L t v → (first v ≡ None → ErrAt other v) → Near (Err (stops.Fault (refusal (t ∷ s)), t ∷ s)) other
+  pub refuse_near : {A : Type 0} (other : Outcome A) → Gap L t v → (Empty (first v) → ErrAt other v) → Near (Err (stops.Fault (refusal (t ∷ s)), t ∷ s)) other
   refuse_near {A = A} other gap none = elim gap.nothing [ inl is ↦ inr ((none is).stop, v, (none is).is, here) | inr r ↦ inl (loose_refusal A r.0 r.1) ]
 
   -- ---- names and types
@@ -343,18 +366,14 @@ module _ (L : FaultKind → Type 0) (t : Token) (s v : List Token) (place : Plac
   twin_type_at None = twin_refuse
   twin_type_at (Some x) = twin_type_from x.at (base_of x.kind)
 
-  type_place : (base : Option Base) (other : Outcome TypeName) → Gap L t v → (first v ≡ None → ErrAt other v) → Near (type_from t.at base (t ∷ s)) other
+  type_place : (base : Option Base) (other : Outcome TypeName) → Gap L t v → (Empty (first v) → ErrAt other v) → Near (type_from t.at base (t ∷ s)) other
   unfolding next
   type_place None other gap none = refuse_near other gap none
   type_place (Some base) other gap none = inl (no_longer (leave_pointers s))
 
-  no_type : (o : Option Token) → o ≡ None → ErrAt (type_at o v) v
-  no_type None is = record { stop = stops.Fault (refusal v); is = refl }
-  no_type (Some x) is = cc
-
   pub twin_type : Twin type_name type_name
   unfolding type_name
-  twin_type = twin_look type_at type_at twin_type_at (λ gap. type_place (base_of t.kind) (type_at (first v) v) gap (no_type (first v)))
+  twin_type = twin_look type_at type_at twin_type_at (λ gap. type_place (base_of t.kind) (type_at (first v) v) gap (λ e. e.no_type v))
 
   -- ---- productions
 
@@ -577,13 +596,9 @@ module _ (L : FaultKind → Type 0) (t : Token) (s v : List Token) (place : Plac
     refused_operand least None is out word =
         gone_then (started (expr room) room (start_of t.at t.kind) (t ∷ s)) (suffixes (expr room) room) (refused_started (start_of t.at t.kind) ((nowhere t.kind word).start t.at) out word) (λ y rest. (twin_suffixes y).leaves rest)
 
-    no_operand : (least : ℕ) (o : Option Token) → o ≡ None → ErrAt (operand_at (expr other) other least o v) v
-    no_operand least None is = record { stop = stops.Fault (refusal v); is = refl }
-    no_operand least (Some x) is = cc
-
     operand_place : (least : ℕ) → Gap L t v → Near (operand_at (expr room) room least (Some t) (t ∷ s)) (operand_at (expr other) other least (first v) v)
     operand_place least gap = elim gap.nothing [
-      | inl is ↦ near_none (operand_at (expr room) room least (Some t) (t ∷ s)) (operand_at (expr other) other least (first v) v) (place_operand least (prefix_of t.kind) gap.deep) (no_operand least (first v) is)
+      | inl is ↦ near_none (operand_at (expr room) room least (Some t) (t ∷ s)) (operand_at (expr other) other least (first v) v) (place_operand least (prefix_of t.kind) gap.deep) (is.no_operand other least v)
       | inr r ↦ inl (refused_operand least (prefix_of t.kind) (nowhere t.kind r.1).prefix r.0 r.1)
     ]
 
@@ -639,17 +654,13 @@ module _ (L : FaultKind → Type 0) (t : Token) (s v : List Token) (place : Plac
   not_begun_at r least us None is = record { stop = stops.Fault (refusal us); is = refl }
   not_begun_at r least us (Some x) is = not_begun_by r least x us (prefix_of x.kind) is
 
-  not_begun : (r least : ℕ) (us : List Token) → begins least (first us) ≡ false → ErrAt (expr (suc r) least us) us
+  pub not_begun : (r least : ℕ) (us : List Token) → begins least (first us) ≡ false → ErrAt (expr (suc r) least us) us
   unfolding expr level operand
   not_begun r least us is = refuses_then r least us (operand_at (expr r) r least (first us) us) (not_begun_at r least us (first us) is)
 
-  none_begins : (least : ℕ) (o : Option Token) → o ≡ None → begins least o ≡ false
-  none_begins least None is = refl
-  none_begins least (Some x) is = cc
-
   deeper_place : (r least : ℕ) → Place L t v → begins least (Some t) ≡ false → Near (refuse {A = Measured} (t ∷ s)) (expr (suc r) least v)
   deeper_place r least (inl same) is = let e = not_begun r least v (ap (begins least) same ∙ is) in inr (e.stop, v, e.is, here)
-  deeper_place r least (inr gap) is = refuse_near (expr (suc r) least v) gap (λ none. not_begun r least v (none_begins least (first v) none))
+  deeper_place r least (inr gap) is = refuse_near (expr (suc r) least v) gap (λ e. not_begun r least v (e.no_begin least))
 
   deeper_alike : (r least : ℕ) (ts us : List Token) → Alike ts us → begins least (first ts) ≡ false → Near (refuse {A = Measured} ts) (expr (suc r) least us)
   unfolding first
@@ -677,3 +688,53 @@ module _ (L : FaultKind → Type 0) (t : Token) (s v : List Token) (place : Plac
   twins (suc r) zero (inl is) least = absurd (omega arith)
   twins (suc r) zero (inr more) least = let less = more.1 in absurd (omega arith)
   twins (suc r) (suc q) rooms least = twin_level r q (fewer r q rooms) (λ l. twins r q (fewer r q rooms) l) least
+
+  -- ---- where the place's token is taken
+
+  inner_twin : (r l : ℕ) → Twin (expr r l) (expr r l)
+  inner_twin r l = twins r r (inl refl) l
+
+  started_gone : (r : ℕ) (start : Start) → begins_some start ≡ true → L DeepNesting → Gone (started (expr r) r start (t ∷ s))
+  started_gone r (Leaf row) is deep = eaten (read_row (expr r) r 0 row) (read_row (expr r) r 0 row) (twin_row r r (inl refl) (inner_twin r) row 0)
+  started_gone r (Inner row) is deep = gone_reader (r == 0) _ _ (t ∷ s) (inr deep) (eaten (read_row (expr r) r 0 row) (read_row (expr r) r 0 row) (twin_row r r (inl refl) (inner_twin r) row 0))
+  started_gone r Nothing is deep = cc
+
+  tight_enough : (k least : ℕ) → nat_le least k ≡ true → nat_lt k least ≡ false
+  tight_enough k least is = grind (arith, nat_tests)
+
+  begun_by : (r least : ℕ) (o : Option (Unary × ℕ)) → begins_as least t o ≡ true → L DeepNesting → Gone (operand_by (expr r) r least t o (t ∷ s))
+  unfolding primary
+  begun_by r least (Some p) is deep = rw (tight_enough p.1 least is) (gone_prefixed r r (inl refl) (inner_twin r) t.at p.0 p.1 deep)
+  begun_by r least None is deep =
+      gone_then (started (expr r) r (start_of t.at t.kind) (t ∷ s)) (suffixes (expr r) r) (started_gone r (start_of t.at t.kind) (start_opened t.at (record { line = 1; col = 1 }) t.kind ∙ is) deep) (λ y rest. (twin_suffixes r r (inl refl) (inner_twin r) y).leaves rest)
+
+  -- a token that an expression begins with
+  pub begun_gone : (room least : ℕ) → begins least (Some t) ≡ true → L DeepNesting → Gone (expr room least (t ∷ s))
+  unfolding expr level operand no_room first
+  begun_gone zero least is deep = rw is (inr deep)
+  begun_gone (suc r) least is deep = gone_then (operand_at (expr r) r least (Some t) (t ∷ s)) (climb (expr r) r least) (begun_by r least (prefix_of t.kind) is deep) (λ y rest. (twin_climb r r (inl refl) (inner_twin r) least y).leaves rest)
+
+  suffix_by_gone : (r n : ℕ) (y : Measured) (o : Option Suffix) (kind : Suffix) → o ≡ Some kind → L DeepNesting → Gone (suffix_by (expr r) r o y (suffixes_from (expr r) r n) (t ∷ s))
+  suffix_by_gone r n y None kind is deep = cc
+  suffix_by_gone r n y (Some which) kind is deep = gone_then (suffixed (expr r) r y which (t ∷ s)) (suffixes_from (expr r) r n) (gone_suffixed r r (inl refl) (inner_twin r) y which deep) (λ z rest. (twin_suffixes_from r r (inl refl) (inner_twin r) n z).leaves rest)
+
+  -- a mark that goes on behind an expression
+  pub suffix_gone : (r : ℕ) (y : Measured) (kind : Suffix) → suffix_of t.kind ≡ Some kind → L DeepNesting → Gone (suffixes (expr r) r y (t ∷ s))
+  unfolding suffixes suffixes_from first
+  suffix_gone r y kind is deep = suffix_by_gone r (length s) y (suffix_of t.kind) kind is deep
+
+  -- behind a token that an expression of a production without parts begins with
+  pub leaf_gone : (r least : ℕ) (x : Token) (row : Row) → prefix_of x.kind ≡ None → start_of x.at x.kind ≡ Leaf row → Gone (and_then (read_row (expr r) r 0 row (t ∷ s)) (suffixes (expr r) r)) → Gone (expr (suc r) least (x ∷ (t ∷ s)))
+  unfolding expr level operand primary first next
+  leaf_gone r least x row p st gone = rw (p, st) (gone_then (and_then (read_row (expr r) r 0 row (t ∷ s)) (suffixes (expr r) r)) (climb (expr r) r least) gone (λ y rest. (twin_climb r r (inl refl) (inner_twin r) least y).leaves rest))
+
+  taken_mark : (which : Mark) → is_mark which t.kind ≡ true → Gone (expect which (t ∷ s))
+  unfolding expect sees first next
+  taken_mark which is = rw is (omega arith)
+
+  -- a mark that a production goes on with
+  pub open_gone : (r : ℕ) (which : Mark) (row : Row) → is_mark which t.kind ≡ true → Gone (and_then (read_row (expr r) r 0 (mark which row) (t ∷ s)) (suffixes (expr r) r))
+  open_gone r which row is =
+      gone_then (read_row (expr r) r 0 (mark which row) (t ∷ s)) (suffixes (expr r) r)
+      (gone_then (expect which (t ∷ s)) (λ u. read_row (expr r) r 0 row) (taken_mark which is) (λ u rest. (twin_row r r (inl refl) (inner_twin r) row 0).leaves rest))
+      (λ y rest. (twin_suffixes r r (inl refl) (inner_twin r) y).leaves rest)
