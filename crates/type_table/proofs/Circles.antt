@@ -41,7 +41,7 @@ of_fields target marks (field ∷ fields) e =
     ]
 
 -- what a list says of its elements is so of one of them
-at_place : (f : Row → Bool) (rows : List Row) (i : ℕ) → get_or (map f rows) i false ≡ true → (row : Row) × (slice_get rows i ≡ Some row) × (f row ≡ true)
+pub at_place : (f : Row → Bool) (rows : List Row) (i : ℕ) → get_or (map f rows) i false ≡ true → (row : Row) × (slice_get rows i ≡ Some row) × (f row ≡ true)
 at_place f [] i e = absurd (cc)
 at_place f (row ∷ rows) zero e = (row, refl, e)
 at_place f (row ∷ rows) (suc i) e = at_place f rows i e
@@ -51,7 +51,7 @@ joined : (rows : List Row) (target outer : ℕ) (row : Row) (marks : List Bool) 
 joined rows target outer row marks is so_far (inl has) = directly outer target row is has
 joined rows target outer row marks is so_far (inr other) = through outer other.0 target row is other.1 (so_far other.0 other.2)
 
-led_is : (rows : List Row) (target n outer : ℕ) → marked_at (led rows target n) outer ≡ true → Contains rows outer target
+pub led_is : (rows : List Row) (target n outer : ℕ) → marked_at (led rows target n) outer ≡ true → Contains rows outer target
 led_is rows target zero outer e = absurd (cc)
 led_is rows target (suc n) outer e =
     let found = at_place (row_leads target (led rows target n)) rows outer e in

@@ -2,3 +2,9 @@ pub mod Within
 pub mod Circles
 pub mod Stuck
 pub mod CellLoops
+pub mod Known
+pub mod CellsWithin
+pub mod Counts
+pub mod Found
+pub mod LaidOut
+pub mod Numbers

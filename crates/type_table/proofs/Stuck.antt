@@ -29,7 +29,7 @@ waits_for known _ number before (later field fields _ has) e = waits_for known f
 row_waits : (known : List Measure) (row : Row) (number : ℕ) → HasField row.fields number → measure_at known number ≡ Waits → type_measure known row ≡ Waits
 row_waits known row number has e = ap closed (waits_for known row.fields number (first_measure row) has e)
 
-at_row : (f : Row → Measure) (rows : List Row) (i : ℕ) (row : Row) → slice_get rows i ≡ Some row → get_or (map f rows) i Waits ≡ f row
+pub at_row : (f : Row → Measure) (rows : List Row) (i : ℕ) (row : Row) → slice_get rows i ≡ Some row → get_or (map f rows) i Waits ≡ f row
 at_row f [] i row e = absurd (cc)
 at_row f (first ∷ rows) zero row e = let same : first ≡ row = cc in ap f same
 at_row f (first ∷ rows) (suc i) row e = at_row f rows i row e

@@ -26,7 +26,7 @@ small_enough false m l e = (refl, e)
 at_most : (n : ℕ) → nat_lt 16777216 n ≡ false → n ≤ 16777216
 at_most n h = grind (arith, nat_tests)
 
-never_waits : (known : List Measure) (fields : List Field) (l : Layout) → put_fields known Waits fields ≡ Fits l → ⊥
+pub never_waits : (known : List Measure) (fields : List Field) (l : Layout) → put_fields known Waits fields ≡ Fits l → ⊥
 never_waits known [] l e = cc
 never_waits known (field ∷ fields) l e = never_waits known fields l e
 
@@ -36,7 +36,7 @@ still_big known last Waits fields l e never = never_waits known fields l e
 still_big known last Big fields l e never = never e
 still_big known last (Fits p) fields l e never = never e
 
-never_big : (known : List Measure) (fields : List Field) (l : Layout) → put_fields known Big fields ≡ Fits l → ⊥
+pub never_big : (known : List Measure) (fields : List Field) (l : Layout) → put_fields known Big fields ≡ Fits l → ⊥
 never_big known [] l e = cc
 never_big known (field ∷ fields) l e = still_big known (last_of field.range) (measured known field.ty) fields l e (never_big known fields l)
 
@@ -52,7 +52,7 @@ abbrev Follow : List Measure → Layout → List Field → Layout → Type 0
 Follow known b fields l = put_fields known (Fits b) fields ≡ Fits l → LieInOrder known b.size (offsets known (Fits b) fields) fields l.size
 
 -- the layout with one field more
-abbrev and_part : Layout → ℕ → Layout → Layout
+abbrev pub and_part : Layout → ℕ → Layout → Layout
 and_part b last p = record { size = end_of b last p; align = larger b.align p.align; lives = b.lives || p.lives }
 
 -- how a field and those behind it lie, by what is known with it
@@ -83,7 +83,7 @@ in_order known [] b l e = let h : b.size ≡ l.size = ap size_of e in omega arit
 in_order known (field ∷ fields) b l e =
     one_more known b (last_of field.range) (measured known field.ty) fields l e (λ b'. in_order known fields b' l)
 
-closed_from : (b l : Layout) (big : Bool) → (if big then Big else Fits (record { size = round_up b.align b.size; align = b.align; lives = b.lives })) ≡ Fits l
+pub closed_from : (b l : Layout) (big : Bool) → (if big then Big else Fits (record { size = round_up b.align b.size; align = b.align; lives = b.lives })) ≡ Fits l
     → (round_up b.align b.size ≡ l.size) × (bytes_of b.align ≡ bytes_of l.align) × (big ≡ false)
 closed_from b l true e = absurd (cc)
 closed_from b l false e = (ap size_of e, ap align_of e, refl)

@@ -1,5 +1,5 @@
 -- Where the string cells of a value begin.
-use Rattle.std.specs.Prelude.{ℕ, zero, suc, ◌+◌, ◌*◌, ◌++◌, Option, Some, None, List, [], ◌∷◌, length, slice_get}
+use Rattle.std.specs.Prelude.{◌≡◌, ℕ, zero, suc, ◌+◌, ◌*◌, ◌%◌, ◌≤◌, ◌++◌, Option, Some, None, List, [], ◌∷◌, length, slice_get}
 use Rattle.fb_base.specs.declared.shape.Shape.{Shape}
 use Rattle.fb_ast.specs.declared.ty.Ty.{Ty}
 use Rattle.fb_ast.specs.declared.ty.Ty.TheVariants as t
@@ -41,6 +41,12 @@ cells rows known (suc n) number at = row_cells known (cells rows known n) at (sl
 -- the cells of a value of a type
 abbrev pub type_cells : List Row → List Measure → Ty → List ℕ
 type_cells rows known ty = value_cells (cells rows known (length rows)) ty 0
+
+-- String cells of 24 bytes each: each begins at a multiple of 8, not before the end of the cell before it, which is low; and
+-- the last one ends within so many bytes. So no two of them overlap.
+abbrev pub CellsLieInOrder : ℕ → List ℕ → ℕ → Type 0
+CellsLieInOrder low [] end = low ≤ end
+CellsLieInOrder low (at ∷ ats) end = (low ≤ at) × (at % 8 ≡ 0) × CellsLieInOrder (at + 24) ats end
 
 -- the shape of a place for a value of a type
 abbrev pub shape_of : List Row → List Measure → Ty → Shape

@@ -1,5 +1,5 @@
 -- Where the fields of a Type lie.
-use Rattle.std.specs.Prelude.{◌≡◌, ℕ, ◌+◌, ◌*◌, ◌%◌, ◌<◌, ◌≤◌, Bool, false, List, [], ◌∷◌}
+use Rattle.std.specs.Prelude.{◌≡◌, ℕ, ◌+◌, ◌*◌, ◌%◌, ◌<◌, ◌≤◌, Bool, false, Option, Some, None, List, [], ◌∷◌, slice_get}
 use Rattle.type_table.specs.declared.layout.Align.{Align}
 use Rattle.type_table.specs.declared.layout.Layout.{Layout}
 use Rattle.type_table.specs.declared.layout.Measure.{Measure}
@@ -36,6 +36,14 @@ offsets known before (field ∷ fields) =
 
 abbrev pub type_offsets : List Measure → Row → List ℕ
 type_offsets known row = offsets known (first_measure row) row.fields
+
+-- the offset of a field of the Type of a number, both counted from 0 in the order of the text
+abbrev pub row_offset : List Measure → ℕ → Option Row → Option ℕ
+row_offset known field None = None
+row_offset known field (Some row) = slice_get (type_offsets known row) field
+
+abbrev pub field_offset : List Row → List Measure → ℕ → ℕ → Option ℕ
+field_offset rows known number field = row_offset known field (slice_get rows number)
 
 -- r is the first multiple of an alignment from n on
 pub record IsNext (align : Align) (n r : ℕ) : Type 0 where

@@ -1,9 +1,12 @@
 -- The table of a module's Types, or the first fault among them.
-use Rattle.std.specs.Prelude.{◌≡◌, ℕ, zero, suc, if◌then◌else◌, Option, Some, None, Result, Ok, Err, List, [], ◌∷◌, length}
+use Rattle.std.specs.Prelude.{◌≡◌, ℕ, zero, suc, if◌then◌else◌, nat_lt, Option, Some, None, Result, Ok, Err, List, [], ◌∷◌, length}
+use Rattle.std.specs.List.{position}
+use Rattle.std.specs.Str.{bytes_eq}
 use Rattle.fb_base.specs.declared.fault.Span.{Span}
 use Rattle.fb_base.specs.declared.fault.Fault.{Fault}
 use Rattle.fb_base.specs.declared.fault.FaultKind.TheVariants.{Twice, TypeCycle, BigPlace}
 use Rattle.fb_ast.specs.declared.part.Item.{Item}
+use Rattle.type_table.specs.declared.layout.Layout.{Layout}
 use Rattle.type_table.specs.declared.layout.Measure.{Measure}
 use Rattle.type_table.specs.declared.layout.Measure.TheVariants.{Waits, Big, Fits}
 use Rattle.type_table.specs.declared.row.Row.{Row}
@@ -41,6 +44,9 @@ rows_of items = (walked (type_names items) nothing items).rows
 abbrev pub known_of : List Row → List Measure
 known_of rows = measures rows (length rows)
 
+abbrev pub IsLaidOut : Measure → Type 0
+IsLaidOut measure = (layout : Layout) × (measure ≡ Fits layout)
+
 abbrev pub fault_of : List Row → Option Fault
 fault_of rows = first_fault rows (known_of rows) zero rows
 
@@ -52,3 +58,15 @@ abbrev pub Answers : List Row → Result Table TypeErr → Type 0
 Answers rows (Ok table) = (fault_of rows ≡ None) × (table ≡ table_of rows)
 Answers rows (Err (e.Fault fault)) = fault_of rows ≡ Some fault
 Answers rows (Err e.NoMemory) = Unit {0}
+
+-- the number of the first Type of a name
+abbrev pub row_number : List Row → List ℕ → Option ℕ
+row_number rows name = position (λ row. bytes_eq row.name.text name) rows
+
+-- a number that has 32 bits
+abbrev pub in_32_bits : Option ℕ → Option ℕ
+in_32_bits None = None
+in_32_bits (Some number) = if nat_lt 4294967295 number then None else Some number
+
+abbrev pub number_of : List Row → List ℕ → Option ℕ
+number_of rows name = in_32_bits (row_number rows name)

@@ -1,10 +1,11 @@
 ghost use Rattle.std.specs.Prelude.{◌≡◌, ◌+◌, ◌*◌, ◌++◌, IfOk, OnOk};
 ghost use Rattle.type_table.specs.Layouts.{measured};
-ghost use Rattle.type_table.specs.Offsets.{size_of, offset_of};
+ghost use Rattle.type_table.specs.Offsets.{size_of};
 ghost use Rattle.type_table.specs.Cells.{repeated, value_cells, fields_cells, cells, type_cells};
 
-use crate::layout::{Measure, put, round_up};
+use crate::layout::{Measure, put};
 use crate::measure::{first_measure, last, measured};
+use crate::offset::offset;
 use crate::row::{Field, Row};
 use fb_ast::Ty;
 use fb_base::{Cells, NoMemory};
@@ -36,19 +37,6 @@ pub fn size(measure: Measure) -> u64
 {
     match measure {
         Measure::Fits(layout) => layout.size as u64,
-        Measure::Waits | Measure::Big => 0,
-    }
-}
-
-// The offset of a field behind what comes before.
-fn offset(before: Measure, part: Measure) -> u64
-    ensures { result ≡ offset_of before part }
-{
-    match before {
-        Measure::Fits(before) => match part {
-            Measure::Fits(part) => round_up(part.align, before.size as u64),
-            Measure::Waits | Measure::Big => 0,
-        },
         Measure::Waits | Measure::Big => 0,
     }
 }

@@ -7,6 +7,7 @@ pub mod laws;
 mod layout;
 mod measure;
 mod members;
+mod offset;
 mod row;
 mod scope;
 mod table;

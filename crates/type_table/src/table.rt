@@ -1,19 +1,23 @@
 ghost use Rattle.std.specs.Prelude.{◌≡◌, IfOk};
 ghost use Rattle.type_table.specs.Cells.{shape_of};
 ghost use Rattle.type_table.specs.Layouts.{measured};
-ghost use Rattle.type_table.specs.Offsets.{size_of, align_of, lives_of};
+ghost use Rattle.type_table.specs.Offsets.{size_of, align_of, lives_of, field_offset};
 ghost use Rattle.type_table.specs.Tables.{
   measure_fault,
   row_fault,
   first_fault,
   rows_of,
   Answers,
+  row_number,
+  in_32_bits,
+  number_of,
 };
 
 use crate::cells::type_cells;
 use crate::cycle::in_itself;
 use crate::layout::{Measure, bytes};
 use crate::measure::{measure_at, measured, measures};
+use crate::offset::field_offset;
 use crate::row::Row;
 use crate::walk::{Walk, type_names, walked};
 use fb_ast::{Tree, Ty};
@@ -149,6 +153,29 @@ fn of_rows(rows: Sequence<Row>, known: Vec<Measure>) -> Table
     }
 }
 
+// The number of the first Type of a name.
+fn row_number(rows: &[Row], name: &[u8]) -> Option<usize>
+    ensures { result ≡ row_number rows.now name.now }
+{
+    rows.iter().position(|row| row.name.text.bytes() == name)
+}
+
+// A number that has 32 bits.
+fn in_32_bits(number: Option<usize>) -> Option<u32>
+    ensures { result ≡ in_32_bits number }
+{
+    match number {
+        None => None,
+        Some(number) => {
+            if number > 0xffff_ffff {
+                None
+            } else {
+                Some(number as u32)
+            }
+        },
+    }
+}
+
 impl Table {
     /// How many bytes a value of a type has: 24 for a String, 8 for a pointer. 0 for a number that is no Type's.
     pub fn size(&self, ty: &Ty) -> u64
@@ -178,6 +205,25 @@ impl Table {
             Measure::Fits(layout) => layout.lives,
             Measure::Waits | Measure::Big => false,
         }
+    }
+
+    /// The number of the Type of this name, in lower case.
+    pub fn number_of(&self, name: &[u8]) -> Option<u32>
+        ensures { result ≡ number_of self.now.rows name.now }
+    {
+        in_32_bits(row_number(self.rows.as_slice(), name))
+    }
+
+    /// Where a field begins within a value of the Type of a number. The fields are counted from 0 in the order of the text.
+    pub fn offset(&self, number: u32, field: usize) -> Option<u64>
+        ensures { result ≡ field_offset self.now.rows self.now.known number field }
+    {
+        field_offset(
+            self.rows.as_slice(),
+            self.known.as_slice(),
+            number as usize,
+            field,
+        )
     }
 
     /// The shape of a place for a value of a type: its size, its alignment, and where its string cells begin, rising.
