@@ -161,7 +161,13 @@ impl<F: Fn(Global, &mut Cursor<'_>, usize, Spot) -> Result<Stmt, Stop>> Nest<F> 
     {
         if sees_sep(cursor, line) {
             cursor.take();
-            return self.if_block(cursor, at, condition, level_within(level), line_within(line));
+            return self.if_block(
+                cursor,
+                at,
+                condition,
+                level_within(level),
+                line_within(line),
+            );
         }
         self.if_by(cursor, line, at, condition, level_within(level))
     }

@@ -19,10 +19,7 @@ use std::alloc::Global;
 impl<F: Fn(Global, &mut Cursor<'_>, usize, Spot) -> Result<Stmt, Stop>> Nest<F> {
     // Start, end and step of a For.
     #[tactic(auto, unfolding(crate::specs::Blocks::range))]
-    fn range(
-        &self,
-        cursor: &mut Cursor<'_>,
-    ) -> Result<(Expr, Expr, Option<Expr>), Stop>
+    fn range(&self, cursor: &mut Cursor<'_>) -> Result<(Expr, Expr, Option<Expr>), Stop>
         ensures { Reads (spec.range 200 (spec.stmt 200 self.now.room) self.now.room cursor.old) result cursor.new }
     {
         let start = whole(self.alloc, cursor)?;

@@ -42,7 +42,8 @@ fn ended(cursor: &mut Cursor<'_>) -> Result<(), Stop>
 
 #[tactic(auto, unfolding(crate::specs::Module::ended_item))]
 fn ended_item(cursor: &mut Cursor<'_>, found: &mut Found, one: Item) -> Result<bool, Stop>
-    ensures { Turns (spec.ended_item found.old one cursor.old) found.new result cursor.new }
+    ensures turns { Turns (spec.ended_item found.old one cursor.old) found.new result cursor.new }
+    ensures few { found.new.tokens ≤ found.old.tokens + 65536 }
 {
     ended(cursor)?;
     found.items.push(one)?;
@@ -143,11 +144,7 @@ fn item_by(
 }
 
 #[tactic(auto, unfolding(crate::specs::Module::one_item))]
-fn one_item(
-    alloc: Global,
-    cursor: &mut Cursor<'_>,
-    found: &mut Found,
-) -> Result<bool, Stop>
+fn one_item(alloc: Global, cursor: &mut Cursor<'_>, found: &mut Found) -> Result<bool, Stop>
     requires { found.old.tokens ≤ 4294967296 }
     ensures turns { Turns (spec.one_item 200 199 found.old cursor.old) found.new result cursor.new }
     ensures few { found.new.tokens ≤ found.old.tokens + 65536 }
@@ -165,11 +162,7 @@ fn one_item(
 }
 
 #[tactic(auto, unfolding(crate::specs::Module::more_items))]
-fn more_items(
-    alloc: Global,
-    cursor: &mut Cursor<'_>,
-    found: &mut Found,
-) -> Result<bool, Stop>
+fn more_items(alloc: Global, cursor: &mut Cursor<'_>, found: &mut Found) -> Result<bool, Stop>
     requires { found.old.tokens ≤ 4294967296 }
     ensures turns { Turns (spec.more_items 200 199 found.old cursor.old) found.new result cursor.new }
     ensures few { found.new.tokens ≤ found.old.tokens + 65536 }
@@ -183,11 +176,7 @@ fn more_items(
 
 // What stands next at the module's level, if the text doesn't end.
 #[tactic(auto, unfolding(crate::specs::Module::item_turn))]
-fn item_turn(
-    alloc: Global,
-    cursor: &mut Cursor<'_>,
-    found: &mut Found,
-) -> Result<bool, Stop>
+fn item_turn(alloc: Global, cursor: &mut Cursor<'_>, found: &mut Found) -> Result<bool, Stop>
     requires { found.old.tokens ≤ 4294967296 }
     ensures turns { Turns (spec.item_turn 200 199 found.old cursor.old) found.new result cursor.new }
     ensures few { found.new.tokens ≤ found.old.tokens + 65536 }

@@ -77,11 +77,7 @@ impl<F: Fn(Global, &mut Cursor<'_>, usize, Spot) -> Result<Stmt, Stop>> Nest<F> 
 
     // The place that ends what is done then: that of the Else, or of the last token.
     #[tactic(auto, unfolding(crate::specs::Blocks::row_end))]
-    fn row_end(
-        &self,
-        before: &Cursor<'_>,
-        cursor: &Cursor<'_>,
-    ) -> Span
+    fn row_end(&self, before: &Cursor<'_>, cursor: &Cursor<'_>) -> Span
         ensures { result ≡ spec.row_end 200 (spec.stmt 200 self.now.room) self.now.room before.now cursor.now }
     {
         if cursor.sees_word(Word::KwElse) {
@@ -91,11 +87,7 @@ impl<F: Fn(Global, &mut Cursor<'_>, usize, Spot) -> Result<Stmt, Stop>> Nest<F> 
     }
 
     #[tactic(auto, unfolding(crate::specs::Blocks::row_then))]
-    fn row_then(
-        &self,
-        cursor: &mut Cursor<'_>,
-        level: Level,
-    ) -> Result<Block, Stop>
+    fn row_then(&self, cursor: &mut Cursor<'_>, level: Level) -> Result<Block, Stop>
         requires { Nests self.now.room (F.pre self.now.inner) (F.post self.now.inner) }
         ensures { Reads (spec.row_then 200 (spec.stmt 200 self.now.room) self.now.room level cursor.old) result cursor.new }
     {
@@ -106,11 +98,7 @@ impl<F: Fn(Global, &mut Cursor<'_>, usize, Spot) -> Result<Stmt, Stop>> Nest<F> 
     }
 
     #[tactic(auto, unfolding(crate::specs::Blocks::row_else))]
-    fn row_else(
-        &self,
-        cursor: &mut Cursor<'_>,
-        level: Level,
-    ) -> Result<Block, Stop>
+    fn row_else(&self, cursor: &mut Cursor<'_>, level: Level) -> Result<Block, Stop>
         requires { Nests self.now.room (F.pre self.now.inner) (F.post self.now.inner) }
         ensures { Reads (spec.row_else 200 (spec.stmt 200 self.now.room) self.now.room level cursor.old) result cursor.new }
     {

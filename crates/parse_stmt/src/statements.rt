@@ -18,13 +18,7 @@ use std::alloc::Global;
 
 impl<F: Fn(Global, &mut Cursor<'_>, usize, Spot) -> Result<Stmt, Stop>> Nest<F> {
     // A statement from its first token on, by what that is.
-    fn led(
-        &self,
-        cursor: &mut Cursor<'_>,
-        at: Span,
-        spot: Spot,
-        lead: Lead,
-    ) -> Result<Stmt, Stop>
+    fn led(&self, cursor: &mut Cursor<'_>, at: Span, spot: Spot, lead: Lead) -> Result<Stmt, Stop>
         requires { Nests self.now.room (F.pre self.now.inner) (F.post self.now.inner) }
         ensures { Reads (spec.led 200 (spec.stmt 200 self.now.room) self.now.room at spot lead cursor.old) result cursor.new }
     {
@@ -56,11 +50,7 @@ impl<F: Fn(Global, &mut Cursor<'_>, usize, Spot) -> Result<Stmt, Stop>> Nest<F> 
 
     // A statement whose statements inside are at most so deep.
     #[tactic(auto, unfolding(crate::specs::Blocks::statement))]
-    fn statement(
-        &self,
-        cursor: &mut Cursor<'_>,
-        spot: Spot,
-    ) -> Result<Stmt, Stop>
+    fn statement(&self, cursor: &mut Cursor<'_>, spot: Spot) -> Result<Stmt, Stop>
         requires { Nests self.now.room (F.pre self.now.inner) (F.post self.now.inner) }
         ensures { Reads (spec.statement 200 (spec.stmt 200 self.now.room) self.now.room spot cursor.old) result cursor.new }
     {
@@ -80,9 +70,9 @@ fn deep_by(cursor: &Cursor<'_>, spot: Spot, lead: Lead) -> FaultKind
     }
 }
 
-// Where no statement can be deep enough: what is wrong with the next token.
+/// Where no statement can be deep enough: what is wrong with the next token.
 #[tactic(auto, unfolding(crate::specs::Blocks::no_room))]
-fn no_room(cursor: &Cursor<'_>, spot: Spot) -> Stop
+pub fn no_room(cursor: &Cursor<'_>, spot: Spot) -> Stop
     ensures { spec.no_room spot cursor.now ≡ Err (result, cursor.now) }
 {
     match cursor.peek() {
@@ -92,12 +82,7 @@ fn no_room(cursor: &Cursor<'_>, spot: Spot) -> Stop
 }
 
 /// A statement that is at most so deep, at most 200, from the next token on.
-pub fn stmt(
-    alloc: Global,
-    cursor: &mut Cursor<'_>,
-    room: usize,
-    spot: Spot,
-) -> Result<Stmt, Stop>
+pub fn stmt(alloc: Global, cursor: &mut Cursor<'_>, room: usize, spot: Spot) -> Result<Stmt, Stop>
     requires { room ≤ 200 }
     ensures { Reads (spec.stmt 200 room spot cursor.old) result cursor.new }
 {

@@ -117,7 +117,11 @@ fn listed(alloc: Global, cursor: &mut Cursor<'_>) -> Result<Listed, Stop>
 }
 
 #[tactic(auto, unfolding(crate::specs::Variables::listed_turn))]
-fn listed_turn(alloc: Global, cursor: &mut Cursor<'_>, found: &mut Items<Listed>) -> Result<bool, Stop>
+fn listed_turn(
+    alloc: Global,
+    cursor: &mut Cursor<'_>,
+    found: &mut Items<Listed>,
+) -> Result<bool, Stop>
     ensures { Turns (spec.listed_turn 200 found.old cursor.old) found.new result cursor.new }
 {
     let one = listed(alloc, cursor)?;
@@ -140,12 +144,7 @@ fn all_listed(alloc: Global, cursor: &mut Cursor<'_>) -> Result<Items<Listed>, S
 
 // Behind As.
 #[tactic(auto, unfolding(crate::specs::Variables::dim_as))]
-fn dim_as(
-    alloc: Global,
-    cursor: &mut Cursor<'_>,
-    at: Span,
-    storage: Storage,
-) -> Result<Stmt, Stop>
+fn dim_as(alloc: Global, cursor: &mut Cursor<'_>, at: Span, storage: Storage) -> Result<Stmt, Stop>
     ensures { Reads (spec.dim_as 200 at storage cursor.old) result cursor.new }
 {
     let ty = type_name(alloc, cursor)?;
@@ -192,12 +191,7 @@ fn may_share(level: Level) -> bool
     }
 }
 
-fn dim_by(
-    alloc: Global,
-    cursor: &mut Cursor<'_>,
-    shares: bool,
-    at: Span,
-) -> Result<Stmt, Stop>
+fn dim_by(alloc: Global, cursor: &mut Cursor<'_>, shares: bool, at: Span) -> Result<Stmt, Stop>
     ensures { Reads (spec.dim_by 200 shares at cursor.old) result cursor.new }
 {
     if !shares {
