@@ -104,12 +104,7 @@ fn faults_in_blocks(rt: HostRuntime) -> Result<(), Fail> {
             1,
             26,
         ),
-        (
-            "Type T :\n x As Long : End Type",
-            FaultKind::Expected,
-            1,
-            9,
-        ),
+        ("Type T :\n x As Long : End Type", FaultKind::Expected, 1, 9),
     ] {
         let wanted = Fault {
             kind,
@@ -197,7 +192,11 @@ fn depths(rt: HostRuntime) -> Result<(), Fail> {
                 at: Span { line: 1, col },
             })
         };
-        assert_eq!(rt; fault_of(alloc, text.as_str())?, wanted, "{front}{piece}{middle}");
+        assert_eq!(rt;
+            fault_of(alloc, text.as_str())?,
+            wanted,
+            "{front}{piece}{middle}"
+        );
     }
     Ok(())
 }
