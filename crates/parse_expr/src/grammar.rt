@@ -8,6 +8,7 @@ ghost use Rattle.parse_expr.specs.Nests.{Nests};
 
 use crate::cursor::Cursor;
 use crate::kinds::{OperandWord, Operator, Suffix, binary_of, operand_word, prefix_of, suffix_of};
+use crate::lists::room_for_one;
 use crate::stop::Stop;
 use crate::types::{copied, name, type_name};
 use fb_ast::{CallWord, Expr, TypeName, Unary};
@@ -85,7 +86,7 @@ impl<F: Fn(Global, &mut Cursor<'_>, usize, u8) -> Result<(Expr, usize), Stop>> G
         ensures reads { Reads (spec.arguments_from (spec.expr self.now.room) self.now.room (length cursor.old) [] deepest cursor.old) result cursor.new }
         ensures within { IfOk result (λ x. x.1 ≤ self.now.room) }
     {
-        let mut found = Items::new(self.alloc);
+        let mut found = room_for_one(self.alloc)?;
         let mut deepest = deepest;
         for _turn in 0..cursor.left() {
             let (tree, depth) = self.part(cursor, deepest)?;

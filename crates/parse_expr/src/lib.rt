@@ -5,6 +5,7 @@ mod cursor;
 mod grammar;
 mod kinds;
 mod laws;
+mod lists;
 mod reading;
 mod stop;
 mod types;
@@ -15,6 +16,7 @@ pub use kinds::{OperandWord, operand_word};
 pub use laws::{
     faults_found, first_fault, longest_tree, no_early_fault, one_tree, trees_found, trees_read,
 };
+pub use lists::room_for_one;
 pub use reading::{error_of, expr};
 pub use stop::{ParseErr, Stop};
 pub use types::{name, type_name};

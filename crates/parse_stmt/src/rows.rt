@@ -11,7 +11,7 @@ use crate::steps::{extra, last_before, place_at, sees_sep};
 use fb_ast::{Block, Expr, Stmt};
 use fb_base::{FaultKind, Span};
 use fb_lexer::Word;
-use parse_expr::{Cursor, Stop};
+use parse_expr::{Cursor, Stop, room_for_one};
 use sqlite_items::Items;
 use std::alloc::Global;
 
@@ -48,7 +48,7 @@ impl<F: Fn(Global, &mut Cursor<'_>, usize, Spot) -> Result<Stmt, Stop>> Nest<F> 
         requires { Nests self.now.room (F.pre self.now.inner) (F.post self.now.inner) }
         ensures { Reads (spec.row_from 200 (spec.stmt 200 self.now.room) self.now.room level one cursor.old) result cursor.new }
     {
-        let mut found = Items::new(self.alloc);
+        let mut found = room_for_one(self.alloc)?;
         found.push(one)?;
         for _turn in 0..cursor.left() + 1 {
             let more = self.row_turn(cursor, level, &mut found)?;

@@ -2,7 +2,9 @@
 //! in a line. Its tests are those of whole texts.
 #![tactic(auto)]
 
-use fb_lexer::{Tokens, lex};
+use fb_ast::Tree;
+use fb_lexer::lex;
+use parse_expr::ParseErr;
 use parse_stmt::parse;
 use std::alloc::{AllocError, Global};
 use std::time::Instant;
@@ -26,9 +28,9 @@ fn text_of(alloc: Global) -> Result<Vec<u8>, AllocError> {
     Ok(text)
 }
 
-// How many statements a text's tokens have, and 0 where they have a fault.
-fn count(alloc: Global, tokens: &Tokens) -> usize {
-    match parse(alloc, tokens) {
+// How many statements were read, and 0 where there is a fault.
+fn count(read: &Result<Tree, ParseErr>) -> usize {
+    match read {
         Ok(tree) => tree.items.len(),
         Err(_) => 0,
     }
@@ -41,7 +43,7 @@ fn main(rt: HostRuntime) -> io::Result<()> {
         let Ok(tokens) = lex(alloc, LINE.as_bytes()) else {
             return Ok(());
         };
-        let found = count(alloc, &tokens);
+        let found = count(&parse(alloc, &tokens));
         let all = tokens.len();
         println!(rt; "{found} statement in {all} tokens")?;
         return Ok(());
@@ -57,8 +59,9 @@ fn main(rt: HostRuntime) -> io::Result<()> {
     let mut least = u64::MAX;
     for _ in 0..ROUNDS {
         let start = Instant::now(&rt)?;
-        found = count(alloc, &tokens);
+        let read = parse(alloc, &tokens);
         let taken = u64::try_from(start.elapsed(&rt)?.as_nanos()).unwrap_or(u64::MAX);
+        found = count(&read);
         least = least.min(taken);
     }
     let all = tokens.len();
