@@ -1,5 +1,5 @@
-//! Times reads and writes of 8 bytes of guest memory, with few and with many live places. Without an argument it says
-//! what it read; with one it prints nanoseconds.
+//! Times reads and writes of 8 bytes of guest memory, with few and with many live places: of 1,000 of them at most, which
+//! the processor's caches hold, and of all. Without an argument it says what it read; with one it prints nanoseconds.
 #![tactic(auto)]
 
 ghost use Rattle.std.specs.Prelude.{◌≡◌};
@@ -17,6 +17,9 @@ const ROUNDS: u64 = 10_000_000;
 // A step from one number to another that visits the numbers in no order, and all of them where their count is no
 // multiple of it.
 const STRIDE: u64 = 7_919;
+
+// How many places the caches hold.
+const FEW: u64 = 1_000;
 
 // Places of 64 bytes.
 fn shape(alloc: Global) -> Shape
@@ -42,17 +45,34 @@ fn memory_of(alloc: Global, places: u64) -> Option<Memory> {
     Some(memory)
 }
 
-// The address of a word in one of so many places, by the number of a round.
-fn address(round: u64, places: u64) -> u64 {
-    let place = round.wrapping_mul(STRIDE) % places.max(1);
-    (place % 0x4000_0000 + 1) * 0x1_0000_0000 + round % 8 * 8
+// How many places are visited, and the step from one's number to the next one's.
+#[derive(Clone, Copy)]
+struct Visit {
+    visited: u64,
+    step: u64,
+}
+
+// At most so many of all places, evenly spread.
+fn spread(places: u64, most: u64) -> Visit {
+    let visited = places.min(most).max(1);
+    Visit {
+        visited,
+        step: places / visited,
+    }
+}
+
+// The address of a word in a place that is visited, by the number of a round.
+fn address(round: u64, visit: Visit) -> u64 {
+    let one = round.wrapping_mul(STRIDE) % visit.visited.max(1);
+    let place = one.wrapping_mul(visit.step) % 0x4000_0000;
+    (place + 1) * 0x1_0000_0000 + round % 8 * 8
 }
 
 // Writes so many words, each its round.
-fn write_words(memory: &mut Memory, places: u64, rounds: u64) -> u64 {
+fn write_words(memory: &mut Memory, visit: Visit, rounds: u64) -> u64 {
     let mut done = 0u64;
     for round in 0..rounds {
-        if memory.write(address(round, places), 8, round).is_some() {
+        if memory.write(address(round, visit), 8, round).is_some() {
             done = done.wrapping_add(1);
         }
     }
@@ -60,14 +80,28 @@ fn write_words(memory: &mut Memory, places: u64, rounds: u64) -> u64 {
 }
 
 // Reads so many words, and adds them.
-fn read_words(memory: &Memory, places: u64, rounds: u64) -> u64 {
+fn read_words(memory: &Memory, visit: Visit, rounds: u64) -> u64 {
     let mut sum = 0u64;
     for round in 0..rounds {
-        if let Some(word) = memory.read(address(round, places), 8) {
+        if let Some(word) = memory.read(address(round, visit), 8) {
             sum = sum.wrapping_add(word);
         }
     }
     sum
+}
+
+// Prints how long a read and a write take.
+fn print_visit(rt: &(impl Clock + Print), memory: &mut Memory, visit: Visit) -> io::Result<()> {
+    let start = Instant::now(rt)?;
+    let written = write_words(memory, visit, ROUNDS);
+    let writing = start.elapsed(rt)?.as_nanos() / 10_000;
+    let start = Instant::now(rt)?;
+    let sum = read_words(memory, visit, ROUNDS);
+    let reading = start.elapsed(rt)?.as_nanos() / 10_000;
+    let visited = visit.visited;
+    println!(rt;
+        "  {visited} of them in no order: picoseconds for a read {reading}, for a write {writing} ({written} written, sum {sum})"
+    )
 }
 
 fn print_times(rt: &(impl Clock + Print), alloc: Global, places: u64) -> io::Result<()> {
@@ -76,15 +110,12 @@ fn print_times(rt: &(impl Clock + Print), alloc: Global, places: u64) -> io::Res
         return println!(rt; "no memory for {places} places");
     };
     let made = start.elapsed(rt)?.as_nanos() / u128::from(places.max(1));
-    let start = Instant::now(rt)?;
-    let written = write_words(&mut memory, places, ROUNDS);
-    let writing = start.elapsed(rt)?.as_nanos() / 10_000;
-    let start = Instant::now(rt)?;
-    let sum = read_words(&memory, places, ROUNDS);
-    let reading = start.elapsed(rt)?.as_nanos() / 10_000;
-    println!(rt;
-        "{places} places: {made} nanoseconds to make one; picoseconds for a read {reading}, for a write {writing} ({written} written, sum {sum})"
-    )
+    println!(rt; "{places} places, {made} nanoseconds to make one")?;
+    print_visit(rt, &mut memory, spread(places, FEW))?;
+    if places > FEW {
+        print_visit(rt, &mut memory, spread(places, places))?;
+    }
+    Ok(())
 }
 
 fn main(rt: HostRuntime) -> io::Result<()> {
@@ -96,8 +127,9 @@ fn main(rt: HostRuntime) -> io::Result<()> {
     }
     match memory_of(alloc, 10) {
         Some(mut memory) => {
-            let written = write_words(&mut memory, 10, 80);
-            let sum = read_words(&memory, 10, 80);
+            let all = spread(10, 10);
+            let written = write_words(&mut memory, all, 80);
+            let sum = read_words(&memory, all, 80);
             println!(rt; "{written} words written to 10 places; they add up to {sum}")
         }
         None => println!(rt; "no memory"),
