@@ -4,7 +4,7 @@ use Rattle.std.proofs.lemmas.List.{length-replicate, append-nil, get_or-set_same
 use Rattle.std.proofs.lemmas.Bool.{false≢true}
 use Rattle.fb_base.specs.declared.shape.Desc.{Desc}
 use Rattle.str_heap.specs.declared.holes.Hole.{Hole}
-use Rattle.str_heap.specs.Blocks.{Spans, is_free, within, Adds, Removes}
+use Rattle.str_heap.specs.Blocks.{Spans, is_free, within, AreFree, Adds, Removes}
 use Rattle.str_heap.specs.Payloads.{blocks, contents, bytes_at, bytes_of, Stores}
 use Rattle.str_heap.specs.Sound.{Begins, end_of, count_of, IsSound, Finds}
 use Rattle.str_heap.proofs.Runs.{by_test, by_order, within-true, within-here, within-false}
@@ -36,8 +36,8 @@ by_same : {X : Type 0} (a b : ℕ) → (a ≡ b → X) → (a ≢ b → X) → X
 by_same a b y n = by_order a b (λ lt. n (λ e. omega arith)) (λ le. by_order b a (λ lt. n (λ e. omega arith)) (λ le'. y (omega arith)))
 
 -- free blocks that suffice
-pub finds_first : (n p : ℕ) (L A : List ℕ) (H H' : Spans) → 0 < n → length A ≡ 16 * length L → ((b : ℕ) → is_free H.spans b ≡ true → b < length L) → H.room ≡ H'.room → Removes n p H.spans H'.spans → Finds n p L A H L A H'
-finds_first n p L A H H' some sized known room r = record {
+pub finds_first : (n p : ℕ) (L A : List ℕ) (H H' : Spans) → 0 < n → length A ≡ 16 * length L → ((b : ℕ) → is_free H.spans b ≡ true → b < length L) → H.room ≡ H'.room → Removes n p H.spans H'.spans → ((q : ℕ) → AreFree n q H.spans → p ≤ q) → Finds n p L A H L A H'
+finds_first n p L A H H' some sized known room r early = record {
   more = (0, sym (append-nil L));
   sized = sized;
   kept = λ a m le. refl;
@@ -45,13 +45,20 @@ finds_first n p L A H H' some sized known room r = record {
   fewer = r.shorter;
   room = omega arith;
   here = λ b w. inl (r.here b w);
+  first = λ q clear. by_order q p
+      (λ before. let last : p + n - 1 < length L = known (p + n - 1) (r.here (p + n - 1) (within-here p n (p + n - 1) (omega arith) (omega arith))) in
+      early q (λ b w. let v = within-true q n b w in elim (clear b w) [
+        | inl free ↦ free
+        | inr past ↦ absurd (omega arith)
+      ]))
+      (λ le. le);
   free = r.free;
   whole = λ b above below. absurd (omega arith);
 }
 
 -- free blocks at the end, and more behind them
-pub finds_end : (n p m : ℕ) (L A L' A' : List ℕ) (H H' : Spans) → p ≤ length L → length L - p < n → m ≡ n - (length L - p) → L' ≡ L ++ replicate m 0 → A' ≡ A ++ replicate (16 * m) 0 → length A ≡ 16 * length L → ((b : ℕ) → is_free H.spans b ≡ true → b < length L) → H.room ≡ H'.room → Removes (length L - p) p H.spans H'.spans → Finds n p L A H L' A' H'
-finds_end n p m L A L' A' H H' le short is more arena sized known room r =
+pub finds_end : (n p m : ℕ) (L A L' A' : List ℕ) (H H' : Spans) → p ≤ length L → length L - p < n → m ≡ n - (length L - p) → L' ≡ L ++ replicate m 0 → A' ≡ A ++ replicate (16 * m) 0 → length A ≡ 16 * length L → ((b : ℕ) → is_free H.spans b ≡ true → b < length L) → H.room ≡ H'.room → Removes (length L - p) p H.spans H'.spans → ((q : ℕ) → AreFree n q H.spans → ⊥) → ((b : ℕ) → b + 1 ≡ p → is_free H.spans b ≡ false) → Finds n p L A H L' A' H'
+finds_end n p m L A L' A' H H' le short is more arena sized known room r full alone =
     let longer : length L' ≡ length L + m = ap length more ∙ length-append L (replicate m 0) ∙ rw length-replicate refl in
     let larger : length A' ≡ length A + 16 * m = ap length arena ∙ length-append A (replicate (16 * m) 0) ∙ rw length-replicate refl in record {
       more = (m, more);
@@ -61,6 +68,17 @@ finds_end n p m L A L' A' H H' le short is more arena sized known room r =
       fewer = r.shorter;
       room = omega arith;
       here = λ b w. let q = within-true p n b w in by_order b (length L) (λ old. inl (r.here b (within-here p (length L - p) b q.0 (omega arith)))) (λ new. inr new);
+      first = λ q clear. by_order q p
+          (λ before. absurd (by_order (length L) (q + n)
+          (λ past. elim (clear (p - 1) (within-here q n (p - 1) (omega arith) (omega arith))) [
+            | inl free ↦ false≢true (sym (alone (p - 1) (omega arith)) ∙ free)
+            | inr behind ↦ omega arith
+          ])
+          (λ fits. full q (λ b w. let v = within-true q n b w in elim (clear b w) [
+            | inl free ↦ free
+            | inr behind ↦ absurd (omega arith)
+          ]))))
+          (λ le. le);
       free = λ b. r.free b ∙ by_test (is_free H.spans b)
           (λ t. let lt = known b t in ap (λ (w : Bool). is_free H.spans b && not w)
           (by_order b p (λ out. within-false p (length L - p) b (λ above below. omega arith) ∙ sym (within-false p n b (λ above below. omega arith)))

@@ -75,7 +75,7 @@ free-below (h ∷ hs) low b s f =
     (λ e. free-below hs (h.place + h.size + 1) b s.3 (rw e at f))
 
 -- no block is free both before a run and behind it
-not_free : (t : Bool) → (t ≡ true → ⊥) → t ≡ false
+pub not_free : (t : Bool) → (t ≡ true → ⊥) → t ≡ false
 not_free true out = absurd (out refl)
 not_free false out = refl
 
@@ -84,7 +84,7 @@ split_at [] i d lt = absurd (omega arith)
 split_at (h ∷ hs) zero d lt = refl
 split_at (h ∷ hs) (suc i) d lt = ap (λ t. h ∷ t) (split_at hs i d (omega arith))
 
-suc_of : (o : Option ℕ) (i : ℕ) → option_map suc o ≡ Some i → (j : ℕ) × (o ≡ Some j) × (suc j ≡ i)
+pub suc_of : (o : Option ℕ) (i : ℕ) → option_map suc o ≡ Some i → (j : ℕ) × (o ≡ Some j) × (suc j ≡ i)
 suc_of None i e = absurd cc
 suc_of (Some j) i e = (j, refl, cc)
 
@@ -258,7 +258,7 @@ left_side p (h ∷ xs) ys low le s below out =
     (λ t. let ends : h.place + h.size ≤ p = by_order p (h.place + h.size) (λ f. absurd (false≢true (sym t ∙ within-here h.place h.size p (omega (arith, below.0)) f))) (λ u. u) in
     left_side p xs ys (h.place + h.size + 1) (omega arith) s.3 below.1 (rw t at out))
 
-after-last : (hs : List Hole) (low j : ℕ) (d : Hole) → j < length hs → after low (take (suc j) hs) ≡ (get_or hs j d).place + (get_or hs j d).size + 1
+pub after-last : (hs : List Hole) (low j : ℕ) (d : Hole) → j < length hs → after low (take (suc j) hs) ≡ (get_or hs j d).place + (get_or hs j d).size + 1
 after-last [] low j d lt = absurd (omega arith)
 after-last (h ∷ hs) low zero d lt = refl
 after-last (h ∷ hs) low (suc j) d lt = after-last hs (h.place + h.size + 1) j d (omega arith)

@@ -21,6 +21,10 @@ abbrev pub is_free : List Hole → ℕ → Bool
 is_free [] b = false
 is_free (hole ∷ holes) b = within hole.place hole.size b || is_free holes b
 
+-- n blocks from a place on are free
+abbrev pub AreFree : ℕ → ℕ → List Hole → Type 0
+AreFree n place holes = (b : ℕ) → within place n b ≡ true → is_free holes b ≡ true
+
 -- how many runs begin before a place
 abbrev pub before : ℕ → List Hole → ℕ
 before place [] = 0
@@ -35,7 +39,7 @@ fit_at n (hole ∷ holes) = if nat_le n hole.size then Some 0 else option_map su
 pub record Removes (n place : ℕ) (old new : List Hole) : Type 0 where
   pub spaced : IsSpaced 0 new
   pub shorter : length new ≤ length old
-  pub here : (b : ℕ) → within place n b ≡ true → is_free old b ≡ true
+  pub here : AreFree n place old
   pub free : (b : ℕ) → is_free new b ≡ (is_free old b && not (within place n b))
   pub small : place + n < 2 ^ 63
 

@@ -1,3 +1,4 @@
 pub mod Blocks
 pub mod Payloads
+pub mod FirstFit
 pub mod Sound

@@ -29,7 +29,11 @@ pub record IsSound (lengths arena : List ℕ) (holes : Spans) (live : ℕ) : Typ
   pub counted : live ≡ count_of lengths
   pub roomy : length holes.spans + live ≤ holes.room
 
--- n blocks from a place on are taken for a string, out of the free ones or behind them
+-- n blocks from a place on are free, or behind the arena
+abbrev pub AreOpen : ℕ → ℕ → List ℕ → Spans → Type 0
+AreOpen n place lengths holes = (b : ℕ) → within place n b ≡ true → (is_free holes.spans b ≡ true) ⊎ (length lengths ≤ b)
+
+-- n blocks from the first place on that has so many are taken for a string, out of the free ones or behind them
 pub record Finds (n place : ℕ) (lengths arena : List ℕ) (holes : Spans) (lengths' arena' : List ℕ) (holes' : Spans) : Type 0 where
   pub more : (m : ℕ) × (lengths' ≡ lengths ++ replicate m 0)
   pub sized : length arena' ≡ 16 * length lengths'
@@ -37,6 +41,7 @@ pub record Finds (n place : ℕ) (lengths arena : List ℕ) (holes : Spans) (len
   pub inside : place + n ≤ length lengths'
   pub fewer : length holes'.spans ≤ length holes.spans
   pub room : holes.room ≤ holes'.room
-  pub here : (b : ℕ) → within place n b ≡ true → (is_free holes.spans b ≡ true) ⊎ (length lengths ≤ b)
+  pub here : AreOpen n place lengths holes
+  pub first : (p : ℕ) → AreOpen n p lengths holes → place ≤ p
   pub free : (b : ℕ) → is_free holes'.spans b ≡ (is_free holes.spans b && not (within place n b))
   pub whole : (b : ℕ) → length lengths ≤ b → b < length lengths' → within place n b ≡ true

@@ -2,6 +2,7 @@ ghost use Rattle.std.specs.Prelude.{◌≡◌, ◌+◌, ◌*◌, ◌<◌, ◌≤
 ghost use Rattle.fb_base.specs.declared.shape.Desc.{Desc};
 ghost use Rattle.str_heap.specs.Blocks.{is_free, fit_at};
 ghost use Rattle.str_heap.specs.Payloads.{IsLive, bytes_of, IsApart, Keeps, Stores, Releases, Assigns, Changes, contents};
+ghost use Rattle.str_heap.specs.FirstFit.{IsFirstFit};
 ghost use Rattle.str_heap.specs.Sound.{Finds};
 
 use crate::holes::Holes;
@@ -66,6 +67,7 @@ impl Heap {
     /// want of memory, and leaves the strings as they were. Bytes that one string can't have are want of memory, too.
     pub fn store(&mut self, bytes: &[u8]) -> Result<Desc, NoMemory>
         ensures stored { IfOk result (λ d. Stores self.old self.new d bytes.now) }
+        ensures first { IfOk result (λ d. IsFirstFit self.old d) }
         ensures kept { IfOk result (λ d. (e : Desc) → IsLive self.old e → Keeps self.old self.new e × IsApart e d) }
         ensures err { OnErr result (self.new ≡ self.old) }
     {
@@ -142,6 +144,7 @@ impl Heap {
     pub fn assign(&mut self, d: Desc, bytes: &[u8]) -> Result<Desc, NoMemory>
         requires { IsLive self.old d }
         ensures assigned { IfOk result (λ f. Assigns self.old self.new d f bytes.now) }
+        ensures first { IfOk result (λ f. IsFirstFit self.old f) }
         ensures kept { IfOk result (λ f. (e : Desc) → IsLive self.old e → IsApart e d → Keeps self.old self.new e × IsApart e f) }
         ensures err { OnErr result (self.new ≡ self.old) }
     {

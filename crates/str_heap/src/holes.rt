@@ -1,6 +1,6 @@
 ghost use Rattle.std.specs.Prelude.{◌≡◌, ◌+◌, ◌-◌, ◌<◌, ◌≤◌, ◌^◌, [], ℕ, true, false, length, OnOk, OnErr, slice_index_or, vec_len, vec_capacity, IfSome, IfNone, None};
 ghost use Rattle.std.specs.List.{HoldsAt};
-ghost use Rattle.str_heap.specs.Blocks.{IsSpaced, is_free, within, before, fit_at, Adds, Removes};
+ghost use Rattle.str_heap.specs.Blocks.{IsSpaced, is_free, within, before, fit_at, AreFree, Adds, Removes};
 
 use fb_base::NoMemory;
 use std::alloc::Global;
@@ -64,7 +64,9 @@ impl Holes {
     pub fn take(&mut self, n: usize) -> Option<usize>
         requires { 0 < n }
         ensures taken { IfSome result (λ place. Removes n place self.old.spans self.new.spans) }
+        ensures first { IfSome result (λ place. (p : ℕ) → AreFree n p self.old.spans → place ≤ p) }
         ensures none { IfNone result (fit_at n self.old.spans ≡ None) }
+        ensures full { IfNone result ((p : ℕ) → AreFree n p self.old.spans → ⊥) }
         ensures same { IfNone result (self.new.spans ≡ self.old.spans) }
         ensures room { self.new.room ≡ self.old.room }
     {
@@ -77,6 +79,7 @@ impl Holes {
         ensures below { result ≤ end }
         ensures taken { Removes (end - result) result self.old.spans self.new.spans }
         ensures short { (n : ℕ) → 0 < n → fit_at n self.old.spans ≡ None → end - result < n }
+        ensures alone { ((b : ℕ) → is_free self.old.spans b ≡ true → b < end) → (b : ℕ) → b + 1 ≡ result → is_free self.old.spans b ≡ false }
         ensures room { self.new.room ≡ self.old.room }
     {
         take_last(&mut self.holes, end)
@@ -132,7 +135,9 @@ fn take_first(holes: &mut Vec<Hole>, n: usize) -> Option<usize>
     requires some { 0 < n }
     requires spaced { IsSpaced 0 holes.old.items }
     ensures taken { IfSome result (λ place. Removes n place holes.old.items holes.new.items) }
+    ensures first { IfSome result (λ place. (p : ℕ) → AreFree n p holes.old.items → place ≤ p) }
     ensures none { IfNone result (fit_at n holes.old.items ≡ None) }
+    ensures full { IfNone result ((p : ℕ) → AreFree n p holes.old.items → ⊥) }
     ensures same { IfNone result (holes.new.items ≡ holes.old.items) }
     ensures room { vec_capacity holes.new ≡ vec_capacity holes.old }
 {
@@ -156,6 +161,7 @@ fn take_last(holes: &mut Vec<Hole>, end: usize) -> usize
     ensures below { result ≤ end }
     ensures taken { Removes (end - result) result holes.old.items holes.new.items }
     ensures short { (n : ℕ) → 0 < n → fit_at n holes.old.items ≡ None → end - result < n }
+    ensures alone { ((b : ℕ) → is_free holes.old.items b ≡ true → b < end) → (b : ℕ) → b + 1 ≡ result → is_free holes.old.items b ≡ false }
     ensures room { vec_capacity holes.new ≡ vec_capacity holes.old }
 {
     let count = holes.len();

@@ -1,4 +1,5 @@
 use Rattle.std.proofs.Common.{arith, ◌-◌, ◌<◌, ◌≡◌, length}
+use Rattle.str_heap.proofs.FirstRun.{front_alone, end_alone}
 use Rattle.str_heap.proofs.Runs.{read_small, removes_at_whole, short_here}
 use Rattle.str_heap.proofs.holes.take_last.Goals as goal
 
@@ -20,3 +21,11 @@ pub returns-clause-short : goal.returns-clause-short
 returns-clause-short c = λ n some none.
     let lt : c.len-count.result - 1 < length c.args.holes.now.items = omega arith in
     omega (arith, c.if-last-end.false, short_here n c.args.holes.now.items (c.len-count.result - 1) c.index-last.result.now none lt c.index-last.ensures)
+
+pub returns-then-last-end-clause-alone : goal.returns-then-last-end-clause-alone
+returns-then-last-end-clause-alone c = λ known b at_end.
+    end_alone c.args.holes.now.items (c.len-count.result - 1) c.index-last.result.now c.args.end b c.requires.spaced (omega arith) c.index-last.ensures c.if-last-end.true known at_end
+
+pub returns-clause-alone : goal.returns-clause-alone
+returns-clause-alone c = λ known b at_front.
+    front_alone c.args.holes.now.items (c.len-count.result - 1) c.index-last.result.now b c.requires.spaced (omega arith) c.index-last.ensures at_front

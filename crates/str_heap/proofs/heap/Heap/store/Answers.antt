@@ -3,6 +3,7 @@ use Rattle.std.proofs.lemmas.Bool.Decides.{nat_tests}
 use Rattle.str_heap.specs.Payloads.{blocks}
 use Rattle.str_heap.proofs.Counts.{count-le}
 use Rattle.str_heap.proofs.Keeping.{sound_reserved, stored_sound, stores}
+use Rattle.str_heap.proofs.FirstFit.{first_fit}
 use Rattle.str_heap.proofs.Live.{stored_keeps}
 use Rattle.str_heap.proofs.heap.Heap.store.Goals as goal
 
@@ -41,6 +42,15 @@ returns-clause-stored c =
     let s = sound_reserved L A c.self.inside.holes H c.self.inside.live c.in_ok-reserve.ensures.spans c.in_ok-reserve.ensures.room c.self.invariant in
     rw (c.write.ensures, ← c.self.view_is)
     (stores n c.in_ok-place.place L A H c.find_room.new.lengths.items c.find_room.new.arena.items c.find_room.new.holes c.in_ok-place.ensures.found c.self.inside.live s bytes some fits _ refl refl refl)
+
+pub returns-clause-first : goal.returns-clause-first
+returns-clause-first c =
+    let L = c.self.inside.lengths.items in
+    let A = c.self.inside.arena.items in
+    let H = c.reserve.new.self in
+    let s = sound_reserved L A c.self.inside.holes H c.self.inside.live c.in_ok-reserve.ensures.spans c.in_ok-reserve.ensures.room c.self.invariant in
+    rw (← c.self.view_is)
+    (first_fit L A H c.self.inside.live s c.div_ceil-size.result c.in_ok-place.place c.find_room.new.lengths.items c.find_room.new.arena.items c.find_room.new.holes c.in_ok-place.ensures.found _ refl refl)
 
 pub returns-clause-kept : goal.returns-clause-kept
 returns-clause-kept c = stored_keeps _ _ _ _ (returns-clause-stored c)
