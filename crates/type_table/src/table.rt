@@ -207,14 +207,16 @@ impl Table {
         }
     }
 
-    /// The number of the Type of this name, in lower case.
+    /// The number of the Type of this name, in lower case: Types are counted from 0 in the order of the text. None where
+    /// there is none.
     pub fn number_of(&self, name: &[u8]) -> Option<u32>
         ensures { result ≡ number_of self.now.rows name.now }
     {
         in_32_bits(row_number(self.rows.as_slice(), name))
     }
 
-    /// Where a field begins within a value of the Type of a number. The fields are counted from 0 in the order of the text.
+    /// At which byte a field begins within a value of the Type of a number. The fields are counted from 0 in the order of
+    /// the text. None where there is no such Type, or it has no such field.
     pub fn offset(&self, number: u32, field: usize) -> Option<u64>
         ensures { result ≡ field_offset self.now.rows self.now.known number field }
     {

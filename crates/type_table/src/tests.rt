@@ -176,8 +176,6 @@ fn lie_so(rt: &impl Abort, alloc: Global, types: &[(Lines<'_>, Wanted<'_>)]) -> 
 fn fields_at_their_alignment(rt: HostRuntime) -> Result<(), Fail> {
     let integer = Word(Kind::Integer);
     let short = Word(Kind::Short);
-    let around = Some((Minus(1), Number(1)));
-    let greatest = Some((Number(0), Number(16777215)));
     lie_so(
         &rt,
         rt.alloc(),
@@ -206,32 +204,44 @@ fn fields_at_their_alignment(rt: HostRuntime) -> Result<(), Fail> {
                 ),
                 Wanted(8, 12, 4, false, &[]),
             ),
-            (
-                Lines(9, b"around", &[Line(10, b"a", around, LONG)]),
-                Wanted(0, 12, 4, false, &[]),
-            ),
-            (
-                Lines(11, b"list", &[Line(12, b"next", None, PtrTo(b"list"))]),
-                Wanted(0, 8, 8, false, &[]),
-            ),
             // before the Type that it contains
             (
                 Lines(
-                    13,
+                    9,
                     b"early",
                     &[
-                        Line(14, b"a", None, BYTE),
-                        Line(15, b"l", None, Of(b"late")),
+                        Line(10, b"a", None, BYTE),
+                        Line(11, b"l", None, Of(b"late")),
                     ],
                 ),
                 Wanted(2, 4, 2, false, &[]),
             ),
             (
-                Lines(16, b"late", &[Line(17, b"a", None, short)]),
+                Lines(12, b"late", &[Line(13, b"a", None, short)]),
                 Wanted(0, 2, 2, false, &[]),
             ),
+        ],
+    )
+}
+
+#[test]
+fn arrays_and_pointers(rt: HostRuntime) -> Result<(), Fail> {
+    let around = Some((Minus(1), Number(1)));
+    let greatest = Some((Number(0), Number(16777215)));
+    lie_so(
+        &rt,
+        rt.alloc(),
+        &[
             (
-                Lines(18, b"greatest", &[Line(19, b"a", greatest, BYTE)]),
+                Lines(1, b"around", &[Line(2, b"a", around, LONG)]),
+                Wanted(0, 12, 4, false, &[]),
+            ),
+            (
+                Lines(3, b"list", &[Line(4, b"next", None, PtrTo(b"list"))]),
+                Wanted(0, 8, 8, false, &[]),
+            ),
+            (
+                Lines(5, b"greatest", &[Line(6, b"a", greatest, BYTE)]),
                 Wanted(0, 16777216, 1, false, &[]),
             ),
         ],
