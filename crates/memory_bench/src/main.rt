@@ -1,4 +1,4 @@
-//! Times reads and writes of 8 bytes of guest memory, with few and with many live places: of 1,000 of them at most, which
+//! Times reads and writes of 8 bytes of guest memory, with few and with many live places: of 100 of them at most, which
 //! the processor's caches hold, and of all. Without an argument it says what it read; with one it prints nanoseconds.
 #![tactic(auto)]
 
@@ -19,7 +19,7 @@ const ROUNDS: u64 = 10_000_000;
 const STRIDE: u64 = 7_919;
 
 // How many places the caches hold.
-const FEW: u64 = 1_000;
+const FEW: u64 = 100;
 
 // Places of 64 bytes.
 fn shape(alloc: Global) -> Shape
