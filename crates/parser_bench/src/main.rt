@@ -55,15 +55,17 @@ fn main(rt: HostRuntime) -> io::Result<()> {
     let Ok(tokens) = lex(alloc, text.as_slice()) else {
         return Ok(());
     };
-    let mut found = 0;
+    // a tree is parsed beside the one before it, and so in memory that the program has used before
+    let mut last = parse(alloc, &tokens);
     let mut least = u64::MAX;
     for _ in 0..ROUNDS {
         let start = Instant::now(&rt)?;
         let read = parse(alloc, &tokens);
         let taken = u64::try_from(start.elapsed(&rt)?.as_nanos()).unwrap_or(u64::MAX);
-        found = count(&read);
         least = least.min(taken);
+        last = read;
     }
+    let found = count(&last);
     let all = tokens.len();
     let each = least / 64_992;
     println!(rt; "{found} statements in {all} tokens, {each} nanoseconds a token")?;
