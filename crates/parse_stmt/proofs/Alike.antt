@@ -19,11 +19,11 @@ use Rattle.parse_expr.proofs.Ends.{Suffixes, same_end, no_longer, Leaves}
 use Rattle.parse_expr.proofs.Turned.{same_bind}
 use Rattle.parse_expr.proofs.FirstFault.{meet}
 use Rattle.parse_expr.proofs.Twins.{Place, Alike, here, there, Gone, Near, ErrAt, Twin, twin_pure, twin_then, twin_test, twin_if, twin_take, twin_next, twin_refuse, gone_then, eaten}
-use Rattle.parse_stmt.specs.declared.kinds.Line.{Line}
-use Rattle.parse_stmt.specs.Words.{is_sep}
-use Rattle.parse_stmt.specs.Simple.{goes_on}
+use Rattle.parse_parts.specs.declared.kinds.Line.{Line}
+use Rattle.parse_parts.specs.Words.{is_sep}
+use Rattle.parse_parts.specs.Simple.{goes_on}
 use Rattle.parse_stmt.proofs.Odd.{is_odd_word, by_odd, odd_mark, odd_word, odd_sep, by_refused, refused_mark, refused_word, refused_sep, Ends, Refused, Ended, Odd, Stand, place_in, other_mark, other_word}
-use Rattle.parse_stmt.specs.Steps.{place_at, origin, here as at_here, last_before, weight_at, words, words_before, extra, sees_sep, sep, Turn, repeat, all_of, comma_behind}
+use Rattle.parse_parts.specs.Steps.{place_at, origin, here as at_here, last_before, weight_at, words, words_before, extra, sees_sep, sep, Turn, repeat, all_of, comma_behind}
 
 -- ---- turns
 

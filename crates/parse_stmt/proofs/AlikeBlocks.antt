@@ -18,14 +18,14 @@ use Rattle.parse_expr.proofs.Sound.{Done, bind, by_test}
 use Rattle.parse_expr.proofs.Ends.{Suffixes, same_end, Leaves}
 use Rattle.parse_expr.proofs.Refused.{nowhere, refusals}
 use Rattle.parse_expr.proofs.Twins.{Rooms, here, there, Gone, Near, gone_then}
-use Rattle.parse_stmt.specs.declared.kinds.Level.{Level}
-use Rattle.parse_stmt.specs.declared.kinds.Line.{Line}
-use Rattle.parse_stmt.specs.declared.kinds.Spot.{Spot}
-use Rattle.parse_stmt.specs.declared.kinds.Closer.{Closer}
-use Rattle.parse_stmt.specs.declared.kinds.Closer.TheVariants as closers
-use Rattle.parse_stmt.specs.Words.{ends_with_end, is_sep}
-use Rattle.parse_stmt.specs.Steps.{place_at, origin, kind_or, astray, extra, sees_sep, sep, pass_by, no_value, sees_value, any_value, all_of}
-use Rattle.parse_stmt.specs.Simple.{end_}
+use Rattle.parse_parts.specs.declared.kinds.Level.{Level}
+use Rattle.parse_parts.specs.declared.kinds.Line.{Line}
+use Rattle.parse_parts.specs.declared.kinds.Spot.{Spot}
+use Rattle.parse_parts.specs.declared.kinds.Closer.{Closer}
+use Rattle.parse_parts.specs.declared.kinds.Closer.TheVariants as closers
+use Rattle.parse_parts.specs.Words.{ends_with_end, is_sep}
+use Rattle.parse_parts.specs.Steps.{place_at, origin, kind_or, astray, extra, sees_sep, sep, pass_by, no_value, sees_value, any_value, all_of}
+use Rattle.parse_parts.specs.Simple.{end_}
 use Rattle.parse_stmt.specs.Blocks.{closed, behind_end, deep_end, end_is_deep, block_stmt, ended, block_turn, block, body}
 use Rattle.parse_stmt.specs.Phrases.{Phrase}
 use Rattle.parse_stmt.proofs.Smallest.{word_is}

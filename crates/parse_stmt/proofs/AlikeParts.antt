@@ -36,11 +36,11 @@ use Rattle.parse_expr.proofs.Refused.{nowhere}
 use Rattle.parse_expr.proofs.Firsts.{none_alike}
 use Rattle.parse_expr.proofs.Rowed.{mark_token}
 use Rattle.parse_expr.proofs.Twins.{Rooms, here, there, Loose, Gone, Near, ErrAt, twins, twin_name, twin_type, twin_test, gone_then, gone_if, past, eaten, not_begun, begun_gone, suffix_gone, open_gone, leaf_gone}
-use Rattle.parse_stmt.specs.Steps.{whole, place, pass_by, no_value, sees_value, any_value, value_behind, initial, is_name, sees_name, any_name, any_type, comma_behind}
-use Rattle.parse_stmt.specs.Variables.{bounds_from, bounds, any_bounds, var_behind, var, var_turn, vars, listed, listed_turn, all_listed, dim_as, dim_vars, dim_behind, may_share, dim_by, dim, static_, constant}
-use Rattle.parse_stmt.specs.Simple.{with_place, assignment_at, assign, assign_by, must_assign, may_assign, value_turn, values, arguments, call_name, named, is_call, headed, goes_on, sees_bare, valued, sees_open_behind, called, result_, line_input, exit_at, exit_by, exit, continue_at, continue_by, continue_, return_, brackets, delete, end_}
-use Rattle.parse_stmt.specs.declared.kinds.Level.{Level}
-use Rattle.parse_stmt.specs.Words.{assignment_of, exit_of, continue_of}
+use Rattle.parse_parts.specs.Steps.{whole, place, pass_by, no_value, sees_value, any_value, value_behind, initial, is_name, sees_name, any_name, any_type, comma_behind}
+use Rattle.parse_parts.specs.Variables.{bounds_from, bounds, any_bounds, var_behind, var, var_turn, vars, listed, listed_turn, all_listed, dim_as, dim_vars, dim_behind, may_share, dim_by, dim, static_, constant}
+use Rattle.parse_parts.specs.Simple.{with_place, assignment_at, assign, assign_by, must_assign, may_assign, value_turn, values, arguments, call_name, named, is_call, headed, goes_on, sees_bare, valued, sees_open_behind, called, result_, line_input, exit_at, exit_by, exit, continue_at, continue_by, continue_, return_, brackets, delete, end_}
+use Rattle.parse_parts.specs.declared.kinds.Level.{Level}
+use Rattle.parse_parts.specs.Words.{assignment_of, exit_of, continue_of}
 use Rattle.parse_stmt.specs.Phrases.{Phrase}
 use Rattle.parse_stmt.proofs.Exact.{Follow, Exact}
 use Rattle.parse_stmt.proofs.Smallest.{exact_name, exact_whole, place_read}

@@ -14,8 +14,8 @@ use Rattle.parse_expr.specs.Expr.{begins, place_or}
 use Rattle.parse_expr.proofs.Sound.{Done, bind, by_test}
 use Rattle.parse_expr.proofs.Ends.{same_end}
 use Rattle.parse_expr.proofs.Twins.{Rooms, here, Gone, gone_then}
-use Rattle.parse_stmt.specs.Steps.{place_at, origin, whole, pass_by, no_value, sees_value}
-use Rattle.parse_stmt.specs.Simple.{sees_between, printed_value, print_turn, all_printed, print}
+use Rattle.parse_parts.specs.Steps.{place_at, origin, whole, pass_by, no_value, sees_value}
+use Rattle.parse_parts.specs.Simple.{sees_between, printed_value, print_turn, all_printed, print}
 use Rattle.parse_stmt.proofs.Smallest.{exact_whole}
 use Rattle.parse_stmt.proofs.Printing.{mark_less, value_less}
 use Rattle.parse_stmt.proofs.Odd.{odd_mark, refused_mark, refused_value, end_empty, other_mark, Ends, Refused, Ended, Stand}

@@ -29,18 +29,19 @@ use Rattle.parse_expr.specs.Expr.{place_or}
 use Rattle.parse_expr.proofs.Sound.{Done}
 use Rattle.parse_expr.proofs.Ends.{Suffixes, same_end, Leaves}
 use Rattle.parse_expr.proofs.Twins.{Rooms, here, there, Gone, Near, gone_then, past, eaten}
-use Rattle.parse_stmt.specs.declared.kinds.Level.{Level}
-use Rattle.parse_stmt.specs.declared.kinds.Line.{Line}
-use Rattle.parse_stmt.specs.declared.kinds.Line.TheVariants as lines
-use Rattle.parse_stmt.specs.declared.kinds.Spot.{Spot}
-use Rattle.parse_stmt.specs.declared.kinds.Lead.{Lead}
-use Rattle.parse_stmt.specs.declared.kinds.Lead.TheVariants as leads
-use Rattle.parse_stmt.specs.declared.kinds.Closer.{Closer}
-use Rattle.parse_stmt.specs.declared.kinds.Closer.TheVariants as closers
-use Rattle.parse_stmt.specs.Words.{level_within, line_within, lead_of, ends_with_end, until_of, comparison_of}
-use Rattle.parse_stmt.specs.Steps.{whole, any_name, place_at, origin, last_before, astray, extra, sees_sep, any_value}
-use Rattle.parse_stmt.specs.Simple.{end_}
-use Rattle.parse_stmt.specs.Blocks.{sees_end, closed, end_of, until_at, test_by, any_test, last_test, comparison_at, is_by, is_case, case_from, one_case, case_turn, case_list, cases_, body, row_turn, row_from, row, row_end, row_then, row_else, row_other, if_row, branch, else_if, branch_turn, branches, else_body, any_else, if_block, if_by, if_behind, if_, range, for_head, for_tail, for_, while_, do_, case_branch, select_turn, case_branches, select, scope, led, statement_at, statement, deep_by, deep_at, no_room, stmt}
+use Rattle.parse_parts.specs.declared.kinds.Level.{Level}
+use Rattle.parse_parts.specs.declared.kinds.Line.{Line}
+use Rattle.parse_parts.specs.declared.kinds.Line.TheVariants as lines
+use Rattle.parse_parts.specs.declared.kinds.Spot.{Spot}
+use Rattle.parse_parts.specs.declared.kinds.Lead.{Lead}
+use Rattle.parse_parts.specs.declared.kinds.Lead.TheVariants as leads
+use Rattle.parse_parts.specs.declared.kinds.Closer.{Closer}
+use Rattle.parse_parts.specs.declared.kinds.Closer.TheVariants as closers
+use Rattle.parse_parts.specs.Words.{level_within, line_within, lead_of, ends_with_end, until_of, comparison_of}
+use Rattle.parse_parts.specs.Steps.{whole, any_name, place_at, origin, last_before, astray, extra, sees_sep, any_value}
+use Rattle.parse_parts.specs.Simple.{end_}
+use Rattle.parse_parts.specs.Cases.{until_at, test_by, any_test, last_test, comparison_at, is_by, is_case, case_from, one_case, case_turn, case_list, cases_}
+use Rattle.parse_stmt.specs.Blocks.{sees_end, closed, end_of, body, row_turn, row_from, row, row_end, row_then, row_else, row_other, if_row, branch, else_if, branch_turn, branches, else_body, any_else, if_block, if_by, if_behind, if_, range, for_head, for_tail, for_, while_, do_, case_branch, select_turn, case_branches, select, scope, led, statement_at, statement, deep_by, deep_at, no_room, stmt}
 use Rattle.parse_stmt.specs.Statements as grammar
 use Rattle.parse_stmt.proofs.Smallest.{word_is}
 use Rattle.parse_stmt.proofs.Parts.{exact_case}

@@ -32,22 +32,24 @@ use Rattle.parse_expr.proofs.Sound.{Done, bind, by_test, map_done}
 use Rattle.parse_expr.proofs.Ends.{Suffixes, same_end, no_longer, Leaves}
 use Rattle.parse_expr.proofs.Refused.{nowhere}
 use Rattle.parse_expr.proofs.Twins.{Rooms, here, there, Gone, Near, ErrAt, twin_test, gone_then, past, eaten}
-use Rattle.parse_stmt.specs.declared.kinds.Level.TheVariants as levels
-use Rattle.parse_stmt.specs.declared.kinds.Line.TheVariants as lines
-use Rattle.parse_stmt.specs.declared.kinds.Spot.{Spot}
-use Rattle.parse_stmt.specs.declared.kinds.Lead.TheVariants as leads
-use Rattle.parse_stmt.specs.declared.kinds.Closer.{Closer}
-use Rattle.parse_stmt.specs.declared.kinds.Closer.TheVariants as closers
-use Rattle.parse_stmt.specs.declared.kinds.ProcedureWord.{ProcedureWord}
-use Rattle.parse_stmt.specs.declared.kinds.ProcedureWord.TheVariants as words
-use Rattle.parse_stmt.specs.declared.kinds.Found.{Found}
-use Rattle.parse_stmt.specs.Words.{lead_of, operator_of}
-use Rattle.parse_stmt.specs.Steps.{place_at, origin, here as at_here, words_before, sees_sep, sep, whole, is_name, sees_name, any_name}
-use Rattle.parse_stmt.specs.Variables.{any_bounds}
-use Rattle.parse_stmt.specs.Simple.{result_}
+use Rattle.parse_parts.specs.declared.kinds.Level.TheVariants as levels
+use Rattle.parse_parts.specs.declared.kinds.Line.TheVariants as lines
+use Rattle.parse_parts.specs.declared.kinds.Spot.{Spot}
+use Rattle.parse_parts.specs.declared.kinds.Lead.TheVariants as leads
+use Rattle.parse_parts.specs.declared.kinds.Closer.{Closer}
+use Rattle.parse_parts.specs.declared.kinds.Closer.TheVariants as closers
+use Rattle.parse_parts.specs.declared.kinds.ProcedureWord.{ProcedureWord}
+use Rattle.parse_parts.specs.declared.kinds.ProcedureWord.TheVariants as words
+use Rattle.parse_stmt.specs.declared.module.Found.{Found}
+use Rattle.parse_parts.specs.Words.{lead_of, operator_of}
+use Rattle.parse_parts.specs.Steps.{place_at, origin, here as at_here, words_before, sees_sep, sep, whole, is_name, sees_name, any_name}
+use Rattle.parse_parts.specs.Variables.{any_bounds}
+use Rattle.parse_parts.specs.Simple.{result_}
 use Rattle.parse_stmt.specs.Blocks.{closed, stmt, statement}
-use Rattle.parse_stmt.specs.Procedures.{any_mode, param_name, param, param_turn, param_list, some_params, params_behind, any_params, one_param, no_params, overload, sub_head, function_head, head_at, declared_head, operator_at, mark_by, operator_mark, declared_operator, declared, Opening, member_sub, member_function, module_sub, module_function, sub_behind, function_behind, constructor, destructor, let_operator, two_params, mark_operator, operator_behind, sub_opened, function_opened, opened, statements, procedure_body, procedure_parts, procedure}
-use Rattle.parse_stmt.specs.Module.{field, let_member, constructor_member, destructor_member, head_member, declared_member, one_member, ended_member, has_field, member_turn, members, type_def, declare, ended_by, ended_item, main_stmt, ended_stmt, function_begins, procedure_word, item_by, one_item, more_items, item_at, item_turn, module_}
+use Rattle.parse_parts.specs.Heads.{any_mode, param_name, param, param_turn, param_list, some_params, params_behind, any_params, one_param, no_params, overload, sub_head, function_head, head_at, declared_head, operator_at, mark_by, operator_mark, declared_operator, declared, Opening, member_sub, member_function, module_sub, module_function, sub_behind, function_behind, constructor, destructor, let_operator, two_params, mark_operator, operator_behind, sub_opened, function_opened, opened}
+use Rattle.parse_stmt.specs.Procedures.{statements, procedure_body, procedure_parts, procedure}
+use Rattle.parse_parts.specs.Members.{field, let_member, constructor_member, destructor_member, head_member, declared_member, one_member, ended_member, has_field, member_turn, members, type_def}
+use Rattle.parse_stmt.specs.Module.{declare, ended_by, ended_item, main_stmt, ended_stmt, function_begins, procedure_word, item_by, one_item, more_items, item_at, item_turn, module_}
 use Rattle.parse_stmt.proofs.Smallest.{word_is}
 use Rattle.parse_stmt.proofs.Bodies.{sep_less}
 use Rattle.parse_stmt.proofs.Heads.{exact_param}

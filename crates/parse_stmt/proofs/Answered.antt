@@ -1,7 +1,6 @@
 -- What the public call says of its answer.
 use Rattle.std.proofs.Common.{◌≡◌, ◌≢◌, Result, Ok, Err, sym, ◌∙◌}
 use Rattle.std.specs.Prelude.{IfOk, IfErr}
-use Rattle.fb_base.specs.declared.fault.Fault.{Fault}
 use Rattle.fb_lexer.specs.TokenList.{TokenList}
 use Rattle.fb_ast.specs.declared.tree.Tree.{Tree}
 use Rattle.parse_expr.specs.declared.stop.ParseErr.{ParseErr}

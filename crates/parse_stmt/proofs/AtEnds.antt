@@ -20,8 +20,8 @@ use Rattle.parse_expr.proofs.Refused.{nowhere, refusals}
 use Rattle.parse_expr.proofs.Fills.{Failed, FaultOf, Next, failed_pure, map_failed}
 use Rattle.parse_expr.proofs.Begun.{begun}
 use Rattle.parse_expr.proofs.Rowed.{NoRoom, Whole}
-use Rattle.parse_stmt.specs.declared.kinds.Line.{Line}
-use Rattle.parse_stmt.specs.Steps.{here, kind_or, astray, extra, sees_sep, sep, whole, place, pass_by, no_value, sees_value, any_value, value_behind, initial, sees_name, any_name, any_type, Turn, repeat, all_of, comma_behind}
+use Rattle.parse_parts.specs.declared.kinds.Line.{Line}
+use Rattle.parse_parts.specs.Steps.{here, kind_or, astray, extra, sees_sep, sep, whole, place, pass_by, no_value, sees_value, any_value, value_behind, initial, sees_name, any_name, any_type, Turn, repeat, all_of, comma_behind}
 
 -- the next token isn't a word that this profile doesn't have
 abbrev pub IsPlain : List Token → Type 0

@@ -12,14 +12,14 @@ use Rattle.fb_ast.specs.declared.stmt.Stmt.{Stmt}
 use Rattle.parse_expr.specs.Reading.{first, next, sees_word, Reader, Outcome, and_then, pure}
 use Rattle.parse_expr.proofs.Sound.{Done, bind, by_test, map_done}
 use Rattle.parse_expr.proofs.Ends.{Suffixes, no_longer}
-use Rattle.parse_stmt.specs.declared.kinds.Level.{Level}
-use Rattle.parse_stmt.specs.declared.kinds.Line.{Line}
-use Rattle.parse_stmt.specs.declared.kinds.Spot.{Spot}
-use Rattle.parse_stmt.specs.declared.kinds.Closer.{Closer}
-use Rattle.parse_stmt.specs.declared.kinds.Closer.TheVariants as closers
-use Rattle.parse_stmt.specs.Words.{is_sep}
-use Rattle.parse_stmt.specs.Steps.{place_at, last_before, sees_sep, repeat, all_of}
-use Rattle.parse_stmt.specs.Steps as steps
+use Rattle.parse_parts.specs.declared.kinds.Level.{Level}
+use Rattle.parse_parts.specs.declared.kinds.Line.{Line}
+use Rattle.parse_parts.specs.declared.kinds.Spot.{Spot}
+use Rattle.parse_parts.specs.declared.kinds.Closer.{Closer}
+use Rattle.parse_parts.specs.declared.kinds.Closer.TheVariants as closers
+use Rattle.parse_parts.specs.Words.{is_sep}
+use Rattle.parse_parts.specs.Steps.{place_at, last_before, sees_sep, repeat, all_of}
+use Rattle.parse_parts.specs.Steps as steps
 use Rattle.parse_stmt.specs.Blocks.{sees_end, closed, deep_end, end_is_deep, block_stmt, ended, block_turn, block, body}
 use Rattle.parse_stmt.specs.Phrases.{Phrase}
 use Rattle.parse_stmt.specs.Statements.{Statements, none, blank, some, Row, last, another}

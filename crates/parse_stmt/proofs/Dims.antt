@@ -15,10 +15,10 @@ use Rattle.fb_ast.specs.declared.stmt.Listed.{Listed as SharedVar}
 use Rattle.fb_ast.specs.declared.stmt.Stmt.{Stmt}
 use Rattle.fb_ast.specs.declared.stmt.Stmt.TheVariants as s
 use Rattle.parse_expr.specs.Reading.{first, sees_word}
-use Rattle.parse_stmt.specs.Steps.{initial, any_type}
-use Rattle.parse_stmt.specs.Variables as reading
-use Rattle.parse_stmt.specs.declared.kinds.Level.{Level}
-use Rattle.parse_stmt.specs.Variables.{may_share}
+use Rattle.parse_parts.specs.Steps.{initial, any_type}
+use Rattle.parse_parts.specs.Variables as reading
+use Rattle.parse_parts.specs.declared.kinds.Level.{Level}
+use Rattle.parse_parts.specs.Variables.{may_share}
 use Rattle.parse_stmt.specs.Phrases.{Phrase, gives, Then, ◌>>◌, any_token, IsName, last, another, behind_mark, behind_word, Listed, ty, expression}
 use Rattle.parse_stmt.specs.Statements as grammar
 use Rattle.parse_stmt.proofs.Exact.{next_kind, Follow, always, Exact, Starts, exact_then, exact_weaker, exact_behind}

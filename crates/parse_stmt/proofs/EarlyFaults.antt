@@ -16,7 +16,7 @@ use Rattle.parse_expr.proofs.Ends.{Suffixes}
 use Rattle.parse_expr.proofs.Firsts.{alike, place_by}
 use Rattle.parse_expr.proofs.FirstFault.{clash}
 use Rattle.parse_expr.proofs.Twins.{Rooms, Near}
-use Rattle.parse_stmt.specs.declared.kinds.Found.{Found}
+use Rattle.parse_stmt.specs.declared.module.Found.{Found}
 use Rattle.parse_stmt.specs.Module.{module_}
 use Rattle.parse_stmt.specs.Texts.{IsTextWithin}
 use Rattle.parse_stmt.specs.Faults.{Begins, BeginsDeeper, HasKind, FirstAt}

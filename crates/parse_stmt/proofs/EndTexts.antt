@@ -37,24 +37,27 @@ use Rattle.fb_ast.specs.declared.stmt.Until.{Until}
 use Rattle.parse_expr.specs.Reading.{first, next, sees, sees_word, Reader, pure}
 use Rattle.parse_expr.specs.Reading as reading
 use Rattle.parse_expr.specs.Faults.{is_refused_kind}
-use Rattle.parse_stmt.specs.declared.kinds.Level.{Level}
-use Rattle.parse_stmt.specs.declared.kinds.Level.TheVariants as levels
-use Rattle.parse_stmt.specs.declared.kinds.Line.{Line}
-use Rattle.parse_stmt.specs.declared.kinds.Line.TheVariants as lines
-use Rattle.parse_stmt.specs.declared.kinds.Spot.{Spot}
-use Rattle.parse_stmt.specs.declared.kinds.Lead.{Lead}
-use Rattle.parse_stmt.specs.declared.kinds.Lead.TheVariants as leads
-use Rattle.parse_stmt.specs.declared.kinds.Closer.{Closer}
-use Rattle.parse_stmt.specs.declared.kinds.Closer.TheVariants as closers
-use Rattle.parse_stmt.specs.declared.kinds.ProcedureWord.{ProcedureWord}
-use Rattle.parse_stmt.specs.declared.kinds.ProcedureWord.TheVariants as words
-use Rattle.parse_stmt.specs.declared.kinds.Found.{Found}
-use Rattle.parse_stmt.specs.Words.{level_within, line_within, lead_of}
-use Rattle.parse_stmt.specs.Steps.{place_at, sees_sep, sees_value, sees_name}
-use Rattle.parse_stmt.specs.Variables as v
-use Rattle.parse_stmt.specs.Simple as m
+use Rattle.parse_parts.specs.declared.kinds.Level.{Level}
+use Rattle.parse_parts.specs.declared.kinds.Level.TheVariants as levels
+use Rattle.parse_parts.specs.declared.kinds.Line.{Line}
+use Rattle.parse_parts.specs.declared.kinds.Line.TheVariants as lines
+use Rattle.parse_parts.specs.declared.kinds.Spot.{Spot}
+use Rattle.parse_parts.specs.declared.kinds.Lead.{Lead}
+use Rattle.parse_parts.specs.declared.kinds.Lead.TheVariants as leads
+use Rattle.parse_parts.specs.declared.kinds.Closer.{Closer}
+use Rattle.parse_parts.specs.declared.kinds.Closer.TheVariants as closers
+use Rattle.parse_parts.specs.declared.kinds.ProcedureWord.{ProcedureWord}
+use Rattle.parse_parts.specs.declared.kinds.ProcedureWord.TheVariants as words
+use Rattle.parse_stmt.specs.declared.module.Found.{Found}
+use Rattle.parse_parts.specs.Words.{level_within, line_within, lead_of}
+use Rattle.parse_parts.specs.Steps.{place_at, sees_sep, sees_value, sees_name}
+use Rattle.parse_parts.specs.Variables as v
+use Rattle.parse_parts.specs.Simple as m
+use Rattle.parse_parts.specs.Cases as cases_read
 use Rattle.parse_stmt.specs.Blocks as b
+use Rattle.parse_parts.specs.Heads as heads
 use Rattle.parse_stmt.specs.Procedures as p
+use Rattle.parse_parts.specs.Members as members_read
 use Rattle.parse_stmt.specs.Module as t
 use Rattle.parse_stmt.proofs.Odd.{refused_lead}
 use Rattle.parse_stmt.proofs.AtEnds.{Early, IsPlain, expected_end, astray_end, extra_end, test_end, more_end, e_then, e_must, e_next, e_pure, e_made, e_here, e_stop, e_refuse, e_choose, e_behind, e_placed, e_expect, e_expect_word, e_sep, e_all, e_comma, e_name, e_type, e_any_name, e_any_type, e_whole, e_place, e_no_value, e_any_value, e_value_behind, e_initial}
@@ -188,33 +191,33 @@ module _ (most : ℕ) where
   unfolding b.end_of
   e_end_of word = e_then e_here (λ at. e_must (e_expect_word w.KwEnd) (e_must (e_expect_word word) (e_pure at)))
 
-  e_test_by : (at : Span) (o : Option Until) → Early (b.test_by most at o)
+  e_test_by : (at : Span) (o : Option Until) → Early (cases_read.test_by most at o)
   e_test_by at None = e_pure None
   e_test_by at (Some word) = e_next (e_made _ (e_whole most))
 
-  e_any_test : Early (b.any_test most)
-  unfolding b.any_test
-  e_any_test = record { at = λ ts. (e_test_by (place_at ts) (b.until_at (first ts))).at ts }
+  e_any_test : Early (cases_read.any_test most)
+  unfolding cases_read.any_test
+  e_any_test = record { at = λ ts. (e_test_by (place_at ts) (cases_read.until_at (first ts))).at ts }
 
-  e_last_test : (tested : Bool) → Early (b.last_test most tested)
-  unfolding b.last_test
+  e_last_test : (tested : Bool) → Early (cases_read.last_test most tested)
+  unfolding cases_read.last_test
   e_last_test tested = more_end tested (e_pure None) e_any_test
 
-  e_is_by : (at : Span) (o : Option Comparison) → Early (b.is_by most at o)
+  e_is_by : (at : Span) (o : Option Comparison) → Early (cases_read.is_by most at o)
   e_is_by at None = e_stop
   e_is_by at (Some which) = e_next (e_made _ (e_whole most))
 
-  e_is_case : (at : Span) → Early (b.is_case most at)
-  unfolding b.is_case
-  e_is_case at = record { at = λ ts. (e_is_by at (b.comparison_at (first ts))).at ts }
+  e_is_case : (at : Span) → Early (cases_read.is_case most at)
+  unfolding cases_read.is_case
+  e_is_case at = record { at = λ ts. (e_is_by at (cases_read.comparison_at (first ts))).at ts }
 
-  e_one_case : Early (b.one_case most)
-  unfolding b.one_case b.case_from
+  e_one_case : Early (cases_read.one_case most)
+  unfolding cases_read.one_case cases_read.case_from
   e_one_case = e_placed (sees_word w.KwIs) place_at e_is_case (e_then (e_whole most) (λ low. e_behind (sees_word w.KwTo) (e_made _ (e_whole most)) (e_pure _)))
 
-  e_cases : Early (b.cases_ most)
-  unfolding b.cases_ b.case_list b.case_turn
-  e_cases = record { at = λ ts. test_end (sees_word w.KwElse ts) _ _ tt ((e_made _ (e_all (b.case_turn most) (λ found. e_then e_one_case (λ x. e_comma found x)) [])).at ts) }
+  e_cases : Early (cases_read.cases_ most)
+  unfolding cases_read.cases_ cases_read.case_list cases_read.case_turn
+  e_cases = record { at = λ ts. test_end (sees_word w.KwElse ts) _ _ tt ((e_made _ (e_all (cases_read.case_turn most) (λ found. e_then e_one_case (λ x. e_comma found x)) [])).at ts) }
 
   -- ---- statements with statements inside
 
@@ -364,72 +367,72 @@ module _ (most : ℕ) where
 
   -- ---- heads and Declares
 
-  e_mode : Early p.any_mode
-  unfolding p.any_mode
+  e_mode : Early heads.any_mode
+  unfolding heads.any_mode
   e_mode = record { at = λ ts. test_end (sees_word w.KwByVal ts) _ _ tt (test_end (sees_word w.KwByRef ts) _ _ tt tt) }
 
-  e_param_name : (nameless : Bool) → Early (p.param_name nameless)
+  e_param_name : (nameless : Bool) → Early (heads.param_name nameless)
   e_param_name true = e_any_name
   e_param_name false = e_made _ e_name
 
-  e_param : (nameless : Bool) → Early (p.param nameless)
-  unfolding p.param
+  e_param : (nameless : Bool) → Early (heads.param nameless)
+  unfolding heads.param
   e_param nameless = e_then e_here (λ at. e_then e_mode (λ x. e_then (e_param_name nameless) (λ n. e_must (e_expect_word w.KwAs) (e_made (λ (t : TypeName). record { at = at; mode = x; name = n; ty = t }) e_type))))
 
-  e_some_params : (nameless : Bool) → Early (p.some_params nameless)
-  unfolding p.some_params p.param_list p.param_turn
-  e_some_params nameless = e_then (e_all (p.param_turn nameless) (λ found. e_then (e_param nameless) (λ x. e_comma found x)) []) (λ all. e_must (e_expect Close) (e_pure all))
+  e_some_params : (nameless : Bool) → Early (heads.some_params nameless)
+  unfolding heads.some_params heads.param_list heads.param_turn
+  e_some_params nameless = e_then (e_all (heads.param_turn nameless) (λ found. e_then (e_param nameless) (λ x. e_comma found x)) []) (λ all. e_must (e_expect Close) (e_pure all))
 
-  e_any_params : (nameless : Bool) → Early (p.any_params nameless)
-  unfolding p.any_params p.params_behind
+  e_any_params : (nameless : Bool) → Early (heads.any_params nameless)
+  unfolding heads.any_params heads.params_behind
   e_any_params nameless = e_behind (sees Open) (record { at = λ ts. test_end (sees Close ts) (Ok ([], next ts)) _ tt ((e_some_params nameless).at ts) }) (e_pure [])
 
-  e_one_param : (nameless : Bool) → Early (p.one_param nameless)
-  unfolding p.one_param
+  e_one_param : (nameless : Bool) → Early (heads.one_param nameless)
+  unfolding heads.one_param
   e_one_param nameless = e_must (e_expect Open) (e_then (e_param nameless) (λ q. e_must (e_expect Close) (e_pure q)))
 
-  e_no_params : Early p.no_params
-  unfolding p.no_params
+  e_no_params : Early heads.no_params
+  unfolding heads.no_params
   e_no_params = e_behind (sees Open) (e_expect Close) (e_pure tt)
 
-  e_overload : Early p.overload
-  unfolding p.overload
+  e_overload : Early heads.overload
+  unfolding heads.overload
   e_overload = record { at = λ ts. test_end (sees_word w.KwOverload ts) _ _ tt tt }
 
-  e_sub_head : (at : Span) (n : Name) (nameless : Bool) → Early (p.sub_head at n nameless)
-  unfolding p.sub_head
+  e_sub_head : (at : Span) (n : Name) (nameless : Bool) → Early (heads.sub_head at n nameless)
+  unfolding heads.sub_head
   e_sub_head at n nameless = e_then e_overload (λ more. e_made _ (e_any_params nameless))
 
-  e_function_head : (at : Span) (n : Name) (nameless : Bool) → Early (p.function_head at n nameless)
-  unfolding p.function_head
+  e_function_head : (at : Span) (n : Name) (nameless : Bool) → Early (heads.function_head at n nameless)
+  unfolding heads.function_head
   e_function_head at n nameless = e_then e_overload (λ more. e_then (e_any_params nameless) (λ all. e_must (e_expect_word w.KwAs) (e_made _ e_type)))
 
-  e_declared_head : Early p.declared_head
-  unfolding p.declared_head
+  e_declared_head : Early heads.declared_head
+  unfolding heads.declared_head
   e_declared_head = e_then e_here (λ at. e_choose (sees_word w.KwSub) (e_then (e_next (e_name)) (λ n. e_sub_head at n true)) (e_then (e_must (e_expect_word w.KwFunction) (e_name)) (λ n. e_function_head at n true)))
 
-  e_mark_by : (o : Option Binary) → Early (p.mark_by o)
+  e_mark_by : (o : Option Binary) → Early (heads.mark_by o)
   e_mark_by None = e_stop
   e_mark_by (Some which) = e_next (e_pure which)
 
-  e_operator_mark : Early p.operator_mark
-  unfolding p.operator_mark
-  e_operator_mark = record { at = λ ts. (e_mark_by (p.operator_at (first ts))).at ts }
+  e_operator_mark : Early heads.operator_mark
+  unfolding heads.operator_mark
+  e_operator_mark = record { at = λ ts. (e_mark_by (heads.operator_at (first ts))).at ts }
 
-  e_declared : (at : Span) → Early (p.declared at)
-  unfolding p.declared p.declared_operator
+  e_declared : (at : Span) → Early (heads.declared at)
+  unfolding heads.declared heads.declared_operator
   e_declared at = e_behind (sees_word w.KwOperator)
       (e_then e_here (λ mark_at. e_then e_operator_mark (λ which. e_must (e_expect Open) (e_then (e_some_params true) (λ all. e_must (e_expect_word w.KwAs) (e_made (λ (t : TypeName). item.DeclareOperator at which mark_at all t) e_type))))))
       (e_made _ e_declared_head)
 
   -- ---- procedures
 
-  e_two_params : Early p.two_params
-  unfolding p.two_params
+  e_two_params : Early heads.two_params
+  unfolding heads.two_params
   e_two_params = e_must (e_expect Open) (e_then (e_param false) (λ one. e_must (e_expect Comma) (e_then (e_param false) (λ other. e_must (e_expect Close) (e_pure (one, other))))))
 
-  e_opened : (which : ProcedureWord) (at : Span) → Early (p.opened which at)
-  unfolding p.sub_opened p.function_opened p.sub_behind p.function_behind p.member_sub p.member_function p.module_sub p.module_function p.constructor p.destructor p.operator_behind p.let_operator p.mark_operator
+  e_opened : (which : ProcedureWord) (at : Span) → Early (heads.opened which at)
+  unfolding heads.sub_opened heads.function_opened heads.sub_behind heads.function_behind heads.member_sub heads.member_function heads.module_sub heads.module_function heads.constructor heads.destructor heads.operator_behind heads.let_operator heads.mark_operator
   e_opened words.Sub at = e_then e_name (λ n. e_behind (sees Dot) (e_then e_name (λ m. e_then (e_any_params false) (λ all. e_made _ e_any_type))) (e_made _ (e_sub_head at n false)))
   e_opened words.Function at = e_then e_name (λ n. e_behind (sees Dot) (e_then e_name (λ m. e_then (e_any_params false) (λ all. e_made _ e_any_type))) (e_made _ (e_function_head at n false)))
   e_opened words.Constructor at = e_then e_name (λ n. e_made _ (e_any_params false))
@@ -448,23 +451,23 @@ module _ (most : ℕ) where
 
   -- ---- Types
 
-  e_member : Early (t.one_member most)
-  unfolding t.one_member t.declared_member t.constructor_member t.destructor_member t.let_member t.head_member t.field
+  e_member : Early (members_read.one_member most)
+  unfolding members_read.one_member members_read.declared_member members_read.constructor_member members_read.destructor_member members_read.let_member members_read.head_member members_read.field
   e_member = e_placed (sees_word w.KwDeclare) place_at
       (λ at. e_choose (sees_word w.KwConstructor) (e_then e_here (λ word_at. e_next (e_made (λ (all : List Param). member.Constructor at word_at all) (e_any_params true))))
       (e_choose (sees_word w.KwDestructor) (e_then e_here (λ word_at. e_next (e_must e_no_params (e_pure (member.Destructor at word_at)))))
       (e_behind (sees_word w.KwOperator) (e_then e_here (λ let_at. e_must (e_expect_word w.KwLet) (e_made (λ (q : Param). member.Let at let_at q) (e_one_param true)))) (e_made (λ (h : Head). member.Declare at h) e_declared_head))))
       (e_choose sees_name (e_then e_name (λ n. e_then e_any_bounds (λ a. e_must (e_expect_word w.KwAs) (e_made _ e_type)))) e_refuse)
 
-  e_member_turn : (found : List Member) → Early (t.member_turn most found)
-  unfolding t.member_turn t.ended_member
+  e_member_turn : (found : List Member) → Early (members_read.member_turn most found)
+  unfolding members_read.member_turn members_read.ended_member
   e_member_turn found = record {
-    at = λ ts. test_end (sees_word w.KwEnd ts) _ _ (test_end (t.has_field found) _ _ tt (expected_end ts)) ((e_then e_member (λ x. e_must (e_sep lines.Free) (e_pure (found ++ x ∷ [], true)))).at ts);
+    at = λ ts. test_end (sees_word w.KwEnd ts) _ _ (test_end (members_read.has_field found) _ _ tt (expected_end ts)) ((e_then e_member (λ x. e_must (e_sep lines.Free) (e_pure (found ++ x ∷ [], true)))).at ts);
   }
 
-  e_type_def : Early (t.type_def most)
-  unfolding t.type_def t.members
-  e_type_def = e_then e_here (λ at. e_next (e_then e_name (λ n. e_must (e_sep lines.Free) (e_then (e_all (t.member_turn most) e_member_turn []) (λ all. e_must (e_expect_word w.KwEnd) (e_must (e_expect_word w.KwType) (e_pure (item.Type at n all))))))))
+  e_type_def : Early (members_read.type_def most)
+  unfolding members_read.type_def members_read.members
+  e_type_def = e_then e_here (λ at. e_next (e_then e_name (λ n. e_must (e_sep lines.Free) (e_then (e_all (members_read.member_turn most) e_member_turn []) (λ all. e_must (e_expect_word w.KwEnd) (e_must (e_expect_word w.KwType) (e_pure (item.Type at n all))))))))
 
   -- ---- the module
 

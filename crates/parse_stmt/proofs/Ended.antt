@@ -5,7 +5,7 @@ use Rattle.fb_lexer.specs.declared.token.Token.{Token}
 use Rattle.parse_expr.specs.Reading.{next, Reader, Outcome, and_then, pure}
 use Rattle.parse_expr.proofs.Sound.{Done, bind, by_test, map_done}
 use Rattle.parse_expr.proofs.Ends.{Suffixes, no_longer}
-use Rattle.parse_stmt.specs.Steps.{place_at, Turn, repeat, all_of}
+use Rattle.parse_parts.specs.Steps.{place_at, Turn, repeat, all_of}
 use Rattle.parse_stmt.specs.Phrases.{Phrase, gives, Then, either, taken, here}
 use Rattle.parse_stmt.specs.Statements.{Many, none, some}
 use Rattle.parse_stmt.proofs.Exact.{next_kind, Follow, Exact, same_end, end_of_end, leave_next}

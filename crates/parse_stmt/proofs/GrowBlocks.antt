@@ -15,14 +15,14 @@ use Rattle.parse_expr.proofs.Fills.{Failed, failed_then, failed_pure, map_failed
 use Rattle.parse_expr.proofs.Ends.{no_longer}
 use Rattle.parse_expr.proofs.Rowed.{here as at_start, a_number}
 use Rattle.fb_ast.specs.declared.expr.Expr.{Expr}
-use Rattle.parse_stmt.specs.declared.kinds.Level.{Level}
-use Rattle.parse_stmt.specs.declared.kinds.Line.{Line}
-use Rattle.parse_stmt.specs.declared.kinds.Line.TheVariants as lines
-use Rattle.parse_stmt.specs.declared.kinds.Spot.{Spot}
-use Rattle.parse_stmt.specs.declared.kinds.Closer.{Closer}
-use Rattle.parse_stmt.specs.Words.{line_within, ends_with_end}
-use Rattle.parse_stmt.specs.Steps.{place_at, astray, extra, sees_sep, sees_value, repeat, all_of}
-use Rattle.parse_stmt.specs.Steps as steps
+use Rattle.parse_parts.specs.declared.kinds.Level.{Level}
+use Rattle.parse_parts.specs.declared.kinds.Line.{Line}
+use Rattle.parse_parts.specs.declared.kinds.Line.TheVariants as lines
+use Rattle.parse_parts.specs.declared.kinds.Spot.{Spot}
+use Rattle.parse_parts.specs.declared.kinds.Closer.{Closer}
+use Rattle.parse_parts.specs.Words.{line_within, ends_with_end}
+use Rattle.parse_parts.specs.Steps.{place_at, astray, extra, sees_sep, sees_value, repeat, all_of}
+use Rattle.parse_parts.specs.Steps as steps
 use Rattle.parse_stmt.specs.Blocks.{closed, deep_end, behind_end, end_is_deep, block_stmt, ended, block_turn}
 use Rattle.parse_stmt.specs.Blocks as b
 use Rattle.parse_stmt.specs.Phrases.{Phrase, gives, Then, maybe, word, expression}

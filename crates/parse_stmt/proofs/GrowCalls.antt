@@ -26,8 +26,8 @@ use Rattle.parse_expr.proofs.Sound.{by_test, seen}
 use Rattle.parse_expr.proofs.Refused.{nowhere}
 use Rattle.parse_expr.proofs.Fills.{Failed, failed_then, failed_pure, map_failed}
 use Rattle.parse_expr.proofs.Rowed.{here as at_start, a_number, mark_token, number_is}
-use Rattle.parse_stmt.specs.Steps as steps
-use Rattle.parse_stmt.specs.Simple.{assignment_at, assign, assign_by, must_assign, may_assign, arguments, call_name, named, is_call, headed, goes_on, sees_bare, valued, called}
+use Rattle.parse_parts.specs.Steps as steps
+use Rattle.parse_parts.specs.Simple.{assignment_at, assign, assign_by, must_assign, may_assign, arguments, call_name, named, is_call, headed, goes_on, sees_bare, valued, called}
 use Rattle.parse_stmt.specs.Phrases.{Phrase, gives, Then, IsName, expression, place}
 use Rattle.parse_stmt.specs.Statements.{values, is_alone, call_word}
 use Rattle.parse_stmt.specs.Statements as g

@@ -16,10 +16,10 @@ use Rattle.parse_expr.specs.Types as types
 use Rattle.parse_expr.proofs.Sound.{Done, by_test, map_done}
 use Rattle.parse_expr.proofs.Fills.{Failed, map_failed}
 use Rattle.parse_expr.proofs.Rowed.{here as at_start, mark_token}
-use Rattle.parse_stmt.specs.Steps.{place_at, sees_name}
-use Rattle.parse_stmt.specs.Steps as steps
-use Rattle.parse_stmt.specs.Procedures as p
-use Rattle.parse_stmt.specs.Module as m
+use Rattle.parse_parts.specs.Steps.{place_at, sees_name}
+use Rattle.parse_parts.specs.Steps as steps
+use Rattle.parse_parts.specs.Heads as p
+use Rattle.parse_parts.specs.Members as m
 use Rattle.parse_stmt.specs.Phrases.{Phrase, gives, Then, ◌>>◌, either, behind_word, word, here, name, ty}
 use Rattle.parse_stmt.specs.Statements.{Chosen}
 use Rattle.parse_stmt.specs.Texts as texts

@@ -12,13 +12,13 @@ use Rattle.fb_ast.specs.declared.stmt.Stmt.TheVariants as k
 use Rattle.parse_expr.specs.Reading.{first, next, Reader, Outcome}
 use Rattle.parse_expr.proofs.Fills.{Failed, map_failed}
 use Rattle.parse_expr.proofs.Rowed.{here as at_start, mark_token}
-use Rattle.parse_stmt.specs.declared.kinds.Level.{Level}
-use Rattle.parse_stmt.specs.declared.kinds.Line.{Line}
-use Rattle.parse_stmt.specs.declared.kinds.Spot.{Spot}
-use Rattle.parse_stmt.specs.declared.kinds.Lead.{Lead}
-use Rattle.parse_stmt.specs.declared.kinds.Lead.TheVariants as leads
-use Rattle.parse_stmt.specs.Words.{level_within, line_within, lead_of}
-use Rattle.parse_stmt.specs.Steps.{astray}
+use Rattle.parse_parts.specs.declared.kinds.Level.{Level}
+use Rattle.parse_parts.specs.declared.kinds.Line.{Line}
+use Rattle.parse_parts.specs.declared.kinds.Spot.{Spot}
+use Rattle.parse_parts.specs.declared.kinds.Lead.{Lead}
+use Rattle.parse_parts.specs.declared.kinds.Lead.TheVariants as leads
+use Rattle.parse_parts.specs.Words.{level_within, line_within, lead_of}
+use Rattle.parse_parts.specs.Steps.{astray}
 use Rattle.parse_stmt.specs.Blocks as b
 use Rattle.parse_stmt.specs.Phrases.{Phrase, maybe, expression}
 use Rattle.parse_stmt.specs.Statements.{is_alone, nothing}

@@ -27,9 +27,9 @@ use Rattle.parse_expr.proofs.Sound.{Done, by_test, map_done}
 use Rattle.parse_expr.proofs.Fills.{Failed, FaultOf, Fills, Next, IsFree as FreeOperand, map_failed, failed_pure}
 use Rattle.parse_expr.proofs.Rowed.{here as at_start, a_number, number_is, mark_token, Whole, NoRoom}
 use Rattle.parse_expr.proofs.Begun.{begun}
-use Rattle.parse_stmt.specs.declared.kinds.Line.{Line}
-use Rattle.parse_stmt.specs.Steps as reading
-use Rattle.parse_stmt.specs.Steps.{place_at, extra, sees_sep, sees_value, no_value, pass_by}
+use Rattle.parse_parts.specs.declared.kinds.Line.{Line}
+use Rattle.parse_parts.specs.Steps as reading
+use Rattle.parse_parts.specs.Steps.{place_at, extra, sees_sep, sees_value, no_value, pass_by}
 use Rattle.parse_stmt.specs.Phrases.{Phrase, gives, Then, either, maybe, mark, word, IsName, ty, expression, place}
 use Rattle.parse_stmt.specs.Phrases as phrases
 use Rattle.parse_stmt.proofs.Smallest.{exact_name, exact_type, exact_whole, exact_place}

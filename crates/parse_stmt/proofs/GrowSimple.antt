@@ -23,12 +23,13 @@ use Rattle.parse_expr.specs.Reading.{first, next, is_mark, same_mark, same_word,
 use Rattle.parse_expr.proofs.Sound.{Done, by_test, map_done}
 use Rattle.parse_expr.proofs.Fills.{Failed, failed_then, failed_pure, map_failed}
 use Rattle.parse_expr.proofs.Rowed.{a_number, mark_token}
-use Rattle.parse_stmt.specs.declared.kinds.Level.{Level}
-use Rattle.parse_stmt.specs.Steps.{place_at, sees_value, no_value, pass_by, repeat}
-use Rattle.parse_stmt.specs.Steps as steps
-use Rattle.parse_stmt.specs.Variables as v
-use Rattle.parse_stmt.specs.Simple as s
-use Rattle.parse_stmt.specs.Simple.{sees_between, printed_value, print_turn}
+use Rattle.parse_parts.specs.declared.kinds.Level.{Level}
+use Rattle.parse_parts.specs.Steps.{place_at, sees_value, no_value, pass_by, repeat}
+use Rattle.parse_parts.specs.Steps as steps
+use Rattle.parse_parts.specs.Variables as v
+use Rattle.parse_parts.specs.Simple as s
+use Rattle.parse_parts.specs.Simple.{sees_between, printed_value, print_turn}
+use Rattle.parse_parts.specs.Cases as cases_read
 use Rattle.parse_stmt.specs.Blocks as b
 use Rattle.parse_stmt.specs.Phrases.{Phrase, gives, Then, ◌>>◌, either, maybe, behind_mark, behind_word, taken, mark, word, any_token, here, Listed, last, ty, expression, place}
 use Rattle.parse_stmt.specs.Statements.{Chosen, AllPrinted, nothing, semicolon, comma, value}
@@ -351,7 +352,7 @@ module _ (reach : Reach) (deep : ℕ) where
 
   -- ---- tests and cases
 
-  test_begun : (ts : List Token) (which : Until) → b.until_at (first ts) ≡ Some which → (kind : FaultKind) (rest : List Token) → Begun reach (expression wide) any (next ts) kind rest → Begun reach (maybe (g.test wide)) any ts kind rest
+  test_begun : (ts : List Token) (which : Until) → cases_read.until_at (first ts) ≡ Some which → (kind : FaultKind) (rest : List Token) → Begun reach (expression wide) any (next ts) kind rest → Begun reach (maybe (g.test wide)) any ts kind rest
   unfolding first next place_at
   test_begun [] which is kind rest f = let bad : ◌≡◌ {A = Option Until} None (Some which) = is in cc
   test_begun (t ∷ ts) which is kind rest f = record {
@@ -373,42 +374,42 @@ module _ (reach : Reach) (deep : ℕ) where
     starts = f.starts;
   }
 
-  test_fails : (ts : List Token) (o : Option Until) → b.until_at (first ts) ≡ o → Failed (Begun reach (maybe (g.test wide)) any ts) (b.test_by most (place_at ts) o ts)
+  test_fails : (ts : List Token) (o : Option Until) → cases_read.until_at (first ts) ≡ o → Failed (Begun reach (maybe (g.test wide)) any ts) (cases_read.test_by most (place_at ts) o ts)
   test_fails ts None is = tt
   test_fails ts (Some which) is =
       failed_pure (Begun reach (maybe (g.test wide)) any ts) (steps.whole most (next ts)) (λ (x : Expr). Some (record { at = place_at ts; word = which; condition = x }))
       (map_failed (Begun reach (expression wide) any (next ts)) (Begun reach (maybe (g.test wide)) any ts) (steps.whole most (next ts)) (whole.fails (next ts)) (test_begun ts which is))
 
-  pub grows_any_test : Grows reach (b.any_test most) (maybe (g.test wide)) any
-  unfolding b.any_test
-  grows_any_test = record { least = []; stands = λ r c. (None, inr (refl, refl)); fails = λ ts. test_fails ts (b.until_at (first ts)) refl; sound = λ ts. widened (wide_any_test most wide fits) ts (b.any_test most ts) ((exact_any_test deep).sound ts) }
+  pub grows_any_test : Grows reach (cases_read.any_test most) (maybe (g.test wide)) any
+  unfolding cases_read.any_test
+  grows_any_test = record { least = []; stands = λ r c. (None, inr (refl, refl)); fails = λ ts. test_fails ts (cases_read.until_at (first ts)) refl; sound = λ ts. widened (wide_any_test most wide fits) ts (cases_read.any_test most ts) ((exact_any_test deep).sound ts) }
 
-  pub grows_last_test : (one : Option Test) → Grows reach (b.last_test most (is_some one)) (g.last_test wide one) any
-  unfolding b.last_test
+  pub grows_last_test : (one : Option Test) → Grows reach (cases_read.last_test most (is_some one)) (g.last_test wide one) any
+  unfolding cases_read.last_test
   grows_last_test None = grows_any_test
   grows_last_test (Some other) = grows_gives None any
 
-  grows_is : (at : Span) → Grows reach (b.is_case most at) (Then (Chosen b.comparison_at) (λ which. Then (expression wide) (λ x. gives (case.Is at which x)))) any
-  unfolding b.is_case
-  grows_is at = grows_chosen b.comparison_at (b.is_by most at) (λ which ts. and_then (steps.whole most ts) (λ x. pure (case.Is at which x))) (λ which. Then (expression wide) (λ x. gives (case.Is at which x)))
+  grows_is : (at : Span) → Grows reach (cases_read.is_case most at) (Then (Chosen cases_read.comparison_at) (λ which. Then (expression wide) (λ x. gives (case.Is at which x)))) any
+  unfolding cases_read.is_case
+  grows_is at = grows_chosen cases_read.comparison_at (cases_read.is_by most at) (λ which ts. and_then (steps.whole most ts) (λ x. pure (case.Is at which x))) (λ which. Then (expression wide) (λ x. gives (case.Is at which x)))
       (mark_token Equal) _ refl (λ ts. refl) (λ which ts. refl) refl (λ which. (grows_then whole like_whole
       (λ x. grows_gives _ any)
       (λ x68 y68 r68. done)))
 
-  grows_from : (low : Expr) → Grows reach (b.case_from most low) (either (word w.KwTo >> Then (expression wide) (λ high. gives (case.Range low high))) (gives (case.Value low))) any
-  unfolding b.case_from
+  grows_from : (low : Expr) → Grows reach (cases_read.case_from most low) (either (word w.KwTo >> Then (expression wide) (λ high. gives (case.Range low high))) (gives (case.Value low))) any
+  unfolding cases_read.case_from
   grows_from low = grows_behind (sees_word w.KwTo) (looks_word w.KwTo) (grows_then whole like_whole
       (λ high. grows_gives _ any)
       (λ x69 y69 r69. done)) (grows_gives (case.Value low) any)
 
-  grows_case : Grows reach (b.one_case most) (g.one_case wide) any
-  unfolding b.one_case
+  grows_case : Grows reach (cases_read.one_case most) (g.one_case wide) any
+  unfolding cases_read.one_case
   grows_case = grows_behind_at (sees_word w.KwIs) (looks_word w.KwIs) grows_is
       (grows_then whole like_whole grows_from (λ low other r. like_either (like_then (like_word w.KwTo) (λ u x q. like_then like_whole (λ a c h. done))) done))
 
-  pub grows_cases : Grows reach (b.cases_ most) (g.all_cases wide) any
-  unfolding b.cases_ b.case_list b.case_turn
-  grows_cases = grows_behind (sees_word w.KwElse) (looks_word w.KwElse) (grows_gives cases.Else any) (grows_then (grows_list grows_case (like_case wide) (λ ts. widened (wide_listed (wide_case most wide fits)) ts (b.case_list most ts) ((exact_cases_list deep).sound ts))) (like_listed (like_case wide))
+  pub grows_cases : Grows reach (cases_read.cases_ most) (g.all_cases wide) any
+  unfolding cases_read.cases_ cases_read.case_list cases_read.case_turn
+  grows_cases = grows_behind (sees_word w.KwElse) (looks_word w.KwElse) (grows_gives cases.Else any) (grows_then (grows_list grows_case (like_case wide) (λ ts. widened (wide_listed (wide_case most wide fits)) ts (cases_read.case_list most ts) ((exact_cases_list deep).sound ts))) (like_listed (like_case wide))
       (λ all. grows_gives _ any)
       (λ x70 y70 r70. done))
 

@@ -17,13 +17,13 @@ use Rattle.parse_expr.specs.Reading.{first, next, is_word, same_word, sees_word,
 use Rattle.parse_expr.proofs.Sound.{Done, bind, by_test, map_done}
 use Rattle.parse_expr.proofs.Fills.{Failed, failed_then, failed_pure, map_failed}
 use Rattle.parse_expr.proofs.Ends.{no_longer}
-use Rattle.parse_stmt.specs.declared.kinds.Level.{Level}
-use Rattle.parse_stmt.specs.declared.kinds.Line.{Line}
-use Rattle.parse_stmt.specs.declared.kinds.Line.TheVariants as lines
-use Rattle.parse_stmt.specs.declared.kinds.Spot.{Spot}
-use Rattle.parse_stmt.specs.declared.kinds.Closer.TheVariants as closers
-use Rattle.parse_stmt.specs.Words.{level_within, line_within}
-use Rattle.parse_stmt.specs.Steps.{place_at, last_before, extra, sees_sep, Turn, repeat}
+use Rattle.parse_parts.specs.declared.kinds.Level.{Level}
+use Rattle.parse_parts.specs.declared.kinds.Line.{Line}
+use Rattle.parse_parts.specs.declared.kinds.Line.TheVariants as lines
+use Rattle.parse_parts.specs.declared.kinds.Spot.{Spot}
+use Rattle.parse_parts.specs.declared.kinds.Closer.TheVariants as closers
+use Rattle.parse_parts.specs.Words.{level_within, line_within}
+use Rattle.parse_parts.specs.Steps.{place_at, last_before, extra, sees_sep, Turn, repeat}
 use Rattle.parse_stmt.specs.Blocks.{ended}
 use Rattle.parse_stmt.specs.Blocks as b
 use Rattle.parse_stmt.specs.Phrases.{Phrase, gives, Then, ◌>>◌, either, maybe, word, sep, name, expression}

@@ -24,21 +24,23 @@ use Rattle.parse_expr.specs.Reading.{first, next, is_word, same_word, sees_word,
 use Rattle.parse_expr.proofs.Sound.{Done, bind, by_test}
 use Rattle.parse_expr.proofs.Ends.{Suffixes, no_longer}
 use Rattle.parse_expr.proofs.Fills.{Failed, failed_then, failed_pure, map_failed}
-use Rattle.parse_stmt.specs.declared.kinds.Level.TheVariants as levels
-use Rattle.parse_stmt.specs.declared.kinds.Line.TheVariants as lines
-use Rattle.parse_stmt.specs.declared.kinds.Spot.{Spot}
-use Rattle.parse_stmt.specs.declared.kinds.Closer.{Closer}
-use Rattle.parse_stmt.specs.declared.kinds.Closer.TheVariants as closers
-use Rattle.parse_stmt.specs.declared.kinds.ProcedureWord.{ProcedureWord}
-use Rattle.parse_stmt.specs.declared.kinds.ProcedureWord.TheVariants as words
-use Rattle.parse_stmt.specs.declared.kinds.Found.{Found}
-use Rattle.parse_stmt.specs.Steps.{place_at, words_before, extra, sees_sep, repeat}
-use Rattle.parse_stmt.specs.Steps as steps
+use Rattle.parse_parts.specs.declared.kinds.Level.TheVariants as levels
+use Rattle.parse_parts.specs.declared.kinds.Line.TheVariants as lines
+use Rattle.parse_parts.specs.declared.kinds.Spot.{Spot}
+use Rattle.parse_parts.specs.declared.kinds.Closer.{Closer}
+use Rattle.parse_parts.specs.declared.kinds.Closer.TheVariants as closers
+use Rattle.parse_parts.specs.declared.kinds.ProcedureWord.{ProcedureWord}
+use Rattle.parse_parts.specs.declared.kinds.ProcedureWord.TheVariants as words
+use Rattle.parse_stmt.specs.declared.module.Found.{Found}
+use Rattle.parse_parts.specs.Steps.{place_at, words_before, extra, sees_sep, repeat}
+use Rattle.parse_parts.specs.Steps as steps
 use Rattle.parse_stmt.specs.Blocks as b
+use Rattle.parse_parts.specs.Heads as heads
 use Rattle.parse_stmt.specs.Procedures as p
 use Rattle.parse_expr.specs.Types as types
-use Rattle.parse_stmt.specs.Procedures.{Opening}
-use Rattle.parse_stmt.specs.Module.{has_field, is_field, one_member, ended_member, member_turn, members, type_def, declare, ended_by, ended_item, main_stmt, ended_stmt, procedure_word, item_by, one_item, more_items, item_turn, item_at, module_}
+use Rattle.parse_parts.specs.Heads.{Opening}
+use Rattle.parse_parts.specs.Members.{has_field, is_field, one_member, ended_member, member_turn, members, type_def}
+use Rattle.parse_stmt.specs.Module.{declare, ended_by, ended_item, main_stmt, ended_stmt, procedure_word, item_by, one_item, more_items, item_turn, item_at, module_}
 use Rattle.parse_stmt.specs.Phrases.{Phrase, gives, Then, either, word, sep}
 use Rattle.parse_stmt.specs.Phrases as phrases
 use Rattle.parse_stmt.specs.Statements as g
@@ -202,8 +204,8 @@ module _ (reach : Reach) (deep room : ℕ) where
       (map_failed (Begun reach (Ended o.1) any ts) (Begun reach (Rest o) any ts) (p.procedure_body most room o.1 ts) (ended_fails o.1 ts)
       (λ kind rest f. record { front = f.front; more = f.more; is = f.is; stands = λ r c. let y = f.stands r c in ((o.0, y.0), record { given = y.0; between = r; front = y.1; back = (refl, refl) }); starts = f.starts }))
 
-  grows_opened : (which : ProcedureWord) (at : Span) → Grows reach (p.opened which at) (OpenedPhrase which at) any
-  unfolding p.sub_opened p.function_opened
+  grows_opened : (which : ProcedureWord) (at : Span) → Grows reach (heads.opened which at) (OpenedPhrase which at) any
+  unfolding heads.sub_opened heads.function_opened
   grows_opened words.Sub at = grows_then grows_name like_name (λ n. grows_sub_behind at n) (λ n x r. like_sub_behind at at n x)
   grows_opened words.Function at = grows_then grows_name like_name (λ n. grows_function_behind at n) (λ n x r. like_function_behind at at n x)
   grows_opened words.Constructor at = grows_constructor at
@@ -220,10 +222,10 @@ module _ (reach : Reach) (deep room : ℕ) where
   abbrev Parts : ProcedureWord → Span → Phrase (ProcedureKind × Block)
   Parts which at = Then (OpenedPhrase which at) Rest
 
-  parts_fail : (which : ProcedureWord) (at : Span) (ts : List Token) → Failed {A = ProcedureKind × Block} (Begun reach (Parts which at) any ts) (and_then (p.opened which at ts) (λ o. λ us. and_then (p.procedure_body most room o.1 us) (λ a. pure (o.0, a))))
+  parts_fail : (which : ProcedureWord) (at : Span) (ts : List Token) → Failed {A = ProcedureKind × Block} (Begun reach (Parts which at) any ts) (and_then (heads.opened which at ts) (λ o. λ us. and_then (p.procedure_body most room o.1 us) (λ a. pure (o.0, a))))
   parts_fail which at ts =
-      failed_then (OpenedPhrase which at ts) (Begun reach (Parts which at) any ts) (p.opened which at ts) _ ((grows_opened which at).sound ts)
-      (map_failed (Begun reach (OpenedPhrase which at) any ts) (Begun reach (Parts which at) any ts) (p.opened which at ts) ((grows_opened which at).fails ts) (least_first (like_opened which at at) like_rest rest_least ts))
+      failed_then (OpenedPhrase which at ts) (Begun reach (Parts which at) any ts) (heads.opened which at ts) _ ((grows_opened which at).sound ts)
+      (map_failed (Begun reach (OpenedPhrase which at) any ts) (Begun reach (Parts which at) any ts) (heads.opened which at ts) ((grows_opened which at).fails ts) (least_first (like_opened which at at) like_rest rest_least ts))
       (λ o mid read. map_failed (Begun reach (Rest o) any mid) (Begun reach (Parts which at) any ts) _ (rest_fails o mid) (whole_begun (like_opened which at at) like_rest ts o mid read))
 
   procedure_fails : (which : ProcedureWord) (ts : List Token) → sees_word (begin_word which) ts ≡ true → Failed (Begun reach (texts.procedure wide high) any ts) (p.procedure most room which ts)

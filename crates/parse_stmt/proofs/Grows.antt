@@ -8,7 +8,7 @@ use Rattle.fb_lexer.specs.declared.token.Mark.TheVariants.{Comma}
 use Rattle.parse_expr.proofs.Sound.{Done, bind, by_test, map_done}
 use Rattle.parse_expr.proofs.Fills.{Failed, failed_then, map_failed}
 use Rattle.parse_expr.proofs.Ends.{no_longer}
-use Rattle.parse_stmt.specs.Steps.{Turn, repeat, all_of, comma_behind}
+use Rattle.parse_parts.specs.Steps.{Turn, repeat, all_of, comma_behind}
 use Rattle.parse_stmt.specs.Phrases.{Phrase, gives, Then, either, taken, Listed, last, another}
 use Rattle.parse_stmt.proofs.Heads.{regroup}
 use Rattle.parse_stmt.proofs.Starts.{Reach, Starts, starts_more}

@@ -18,9 +18,9 @@ use Rattle.fb_ast.specs.declared.part.Item.TheVariants as item
 use Rattle.parse_expr.specs.Reading.{first, sees, sees_word, expect_word, Reader, Outcome, and_then}
 use Rattle.parse_expr.specs.Types.{name}
 use Rattle.parse_expr.proofs.Sound.{Done}
-use Rattle.parse_stmt.specs.Steps.{sees_name, is_name, any_name}
-use Rattle.parse_stmt.specs.Procedures.{operator_at, mark_by}
-use Rattle.parse_stmt.specs.Procedures as reading
+use Rattle.parse_parts.specs.Steps.{sees_name, is_name, any_name}
+use Rattle.parse_parts.specs.Heads.{operator_at, mark_by}
+use Rattle.parse_parts.specs.Heads as reading
 use Rattle.parse_stmt.specs.Phrases.{Phrase, gives, Then, ◌>>◌, either, maybe, word, mark, IsName, Listed, here, ty, last, another}
 use Rattle.parse_stmt.specs.Phrases as phrases
 use Rattle.parse_stmt.specs.Statements.{Chosen}

@@ -12,7 +12,7 @@ use Rattle.parse_expr.specs.Faults.{is_refused_kind}
 use Rattle.parse_expr.proofs.Firsts.{alike}
 use Rattle.parse_expr.proofs.FirstFault.{clash}
 use Rattle.parse_expr.proofs.Twins.{Rooms, Near}
-use Rattle.parse_stmt.specs.declared.kinds.Found.{Found}
+use Rattle.parse_stmt.specs.declared.module.Found.{Found}
 use Rattle.parse_stmt.specs.Module.{module_}
 use Rattle.parse_stmt.specs.Texts.{IsTextWithin}
 use Rattle.parse_stmt.specs.Faults.{BeginsAtAnyDepth, RefusedThere, TakesEnd}

@@ -13,7 +13,7 @@ use Rattle.parse_expr.specs.Reading.{first, Outcome}
 use Rattle.parse_expr.specs.Faults.{is_refused_kind}
 use Rattle.parse_expr.proofs.Ends.{Suffixes}
 use Rattle.parse_expr.proofs.Fills.{Failed}
-use Rattle.parse_stmt.specs.declared.kinds.Found.{Found}
+use Rattle.parse_stmt.specs.declared.module.Found.{Found}
 use Rattle.parse_stmt.specs.Module.{module_, told, tree_of}
 use Rattle.parse_stmt.specs.Faults.{Begins, RefusedThere, HasKind, FirstAt}
 use Rattle.parse_stmt.proofs.EarlyFaults.{at_rest, first_at}

@@ -16,11 +16,11 @@ use Rattle.parse_expr.specs.Reading.{is_mark, same_mark}
 use Rattle.parse_expr.specs.Rows.{begins_some, word_start}
 use Rattle.parse_expr.specs.Expr.{begins}
 use Rattle.parse_expr.proofs.Rowed.{here as at_start}
-use Rattle.parse_stmt.specs.declared.kinds.Level.{Level}
-use Rattle.parse_stmt.specs.declared.kinds.Level.TheVariants as levels
-use Rattle.parse_stmt.specs.declared.kinds.Lead.{Lead}
-use Rattle.parse_stmt.specs.declared.kinds.Lead.TheVariants as leads
-use Rattle.parse_stmt.specs.Words.{operand_lead, word_lead, allowed, static_at, lead_of}
+use Rattle.parse_parts.specs.declared.kinds.Level.{Level}
+use Rattle.parse_parts.specs.declared.kinds.Level.TheVariants as levels
+use Rattle.parse_parts.specs.declared.kinds.Lead.{Lead}
+use Rattle.parse_parts.specs.declared.kinds.Lead.TheVariants as leads
+use Rattle.parse_parts.specs.Words.{operand_lead, word_lead, allowed, static_at, lead_of}
 
 pub expected_or : (kind : FaultKind) → (kind ≡ Expected) ⊎ (kind ≡ Expected → ⊥)
 expected_or Expected = inl refl

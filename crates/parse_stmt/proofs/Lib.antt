@@ -1,4 +1,3 @@
-mod Loops
 mod Exact
 mod Smallest
 mod Lists
@@ -47,4 +46,3 @@ mod EndTexts
 mod LateFaults
 mod Answered
 mod OneFault
-mod Fields

@@ -17,11 +17,11 @@ use Rattle.fb_ast.specs.declared.stmt.Storage.{Storage}
 use Rattle.fb_ast.specs.declared.stmt.Test.{Test}
 use Rattle.parse_expr.specs.Reading.{first, next, holds, is_mark, sees}
 use Rattle.parse_expr.proofs.Ends.{Suffixes, same_end, end_of_end}
-use Rattle.parse_stmt.specs.Steps.{place_at}
-use Rattle.parse_stmt.specs.Simple.{assignment_at}
-use Rattle.parse_stmt.specs.Blocks.{until_at, comparison_at}
-use Rattle.parse_stmt.specs.Procedures.{operator_at, Opening}
-use Rattle.parse_stmt.specs.Module.{is_field}
+use Rattle.parse_parts.specs.Steps.{place_at}
+use Rattle.parse_parts.specs.Simple.{assignment_at}
+use Rattle.parse_parts.specs.Cases.{until_at, comparison_at}
+use Rattle.parse_parts.specs.Heads.{operator_at, Opening}
+use Rattle.parse_parts.specs.Members.{is_field}
 use Rattle.parse_stmt.specs.Phrases.{Phrase, gives, Then, maybe, behind_mark, behind_word, IsName, expression}
 use Rattle.parse_stmt.specs.Statements.{bounds, var, shared_var, variables, dim_with, constant, values, is_alone, assignment, call_only, call, call_name, valued, AllPrinted, nothing, semicolon, comma, value, range, for_head, test, last_test, one_case, all_cases, end_of}
 use Rattle.parse_stmt.specs.Texts.{any_mode, param_name, param, some_params, any_params, one_param, no_params, overload, sub_head, function_head, declared_head, operator_mark, declared_operator, declare, sub_behind, function_behind, constructor, destructor, let_operator, two_params, mark_operator, field, declared_member, one_member}

@@ -22,19 +22,19 @@ use Rattle.parse_expr.specs.Reading.{first, next, holds, is_mark, is_word, sees,
 use Rattle.parse_expr.specs.Rows.{Row as ExprRow, mark as mark_row, call_word_row, start_of, word_start}
 use Rattle.parse_expr.specs.Grammar.{row_of, Is, Expression, Behind, primary as a_primary, suffix as a_suffix, prefix as a_prefix, binary as a_binary}
 use Rattle.parse_expr.proofs.Ends.{Suffixes, same_end, end_of_end, no_longer}
-use Rattle.parse_stmt.specs.declared.kinds.Level.{Level}
-use Rattle.parse_stmt.specs.declared.kinds.Level.TheVariants as levels
-use Rattle.parse_stmt.specs.declared.kinds.Line.{Line}
-use Rattle.parse_stmt.specs.declared.kinds.Line.TheVariants as lines
-use Rattle.parse_stmt.specs.declared.kinds.Lead.{Lead}
-use Rattle.parse_stmt.specs.declared.kinds.Lead.TheVariants as leads
-use Rattle.parse_stmt.specs.declared.kinds.Closer.{Closer}
-use Rattle.parse_stmt.specs.Words.{level_within, line_within, lead_of, is_sep}
-use Rattle.parse_stmt.specs.Steps.{sees_sep}
-use Rattle.parse_stmt.specs.Variables.{may_share}
-use Rattle.parse_stmt.specs.Simple.{assignment_at, exit_at, continue_at}
-use Rattle.parse_stmt.specs.Procedures.{Opening}
-use Rattle.parse_stmt.specs.Module.{is_field, has_field}
+use Rattle.parse_parts.specs.declared.kinds.Level.{Level}
+use Rattle.parse_parts.specs.declared.kinds.Level.TheVariants as levels
+use Rattle.parse_parts.specs.declared.kinds.Line.{Line}
+use Rattle.parse_parts.specs.declared.kinds.Line.TheVariants as lines
+use Rattle.parse_parts.specs.declared.kinds.Lead.{Lead}
+use Rattle.parse_parts.specs.declared.kinds.Lead.TheVariants as leads
+use Rattle.parse_parts.specs.declared.kinds.Closer.{Closer}
+use Rattle.parse_parts.specs.Words.{level_within, line_within, lead_of, is_sep}
+use Rattle.parse_parts.specs.Steps.{sees_sep}
+use Rattle.parse_parts.specs.Variables.{may_share}
+use Rattle.parse_parts.specs.Simple.{assignment_at, exit_at, continue_at}
+use Rattle.parse_parts.specs.Heads.{Opening}
+use Rattle.parse_parts.specs.Members.{is_field, has_field}
 use Rattle.parse_stmt.specs.Phrases.{Phrase, gives, Then, ◌>>◌, either, maybe, before, word, sep, any_token, expression, place}
 use Rattle.parse_stmt.specs.Statements.{Chosen, is_alone, values, valued, call_word, assignment, end_of, Many, none, some, Statements, blank, Row, last, another}
 use Rattle.parse_stmt.specs.Statements as g

@@ -7,8 +7,8 @@ use Rattle.fb_lexer.specs.declared.word.Word.{Word}
 use Rattle.parse_expr.specs.Reading.{first, next, holds, is_mark, sees, sees_word}
 use Rattle.parse_expr.proofs.Ends.{Suffixes, same_end, end_of_end}
 use Rattle.parse_expr.proofs.FirstFault.{meet}
-use Rattle.parse_stmt.specs.declared.kinds.Line.{Line}
-use Rattle.parse_stmt.specs.Steps.{place_at, sees_sep}
+use Rattle.parse_parts.specs.declared.kinds.Line.{Line}
+use Rattle.parse_parts.specs.Steps.{place_at, sees_sep}
 use Rattle.parse_stmt.specs.Phrases.{Phrase, gives, Then, either, taken, mark, word, sep, here, IsName, Listed, last, another, IsWithin, expression, place, ty}
 use Rattle.parse_stmt.specs.Phrases as phrases
 use Rattle.parse_stmt.specs.Statements.{Chosen}

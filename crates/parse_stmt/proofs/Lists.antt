@@ -9,7 +9,7 @@ use Rattle.fb_lexer.specs.declared.word.Word.{Word}
 use Rattle.parse_expr.specs.Reading.{first, next, sees, sees_word, Reader, Outcome, and_then, pure}
 use Rattle.parse_expr.proofs.Sound.{Done, bind, by_test, map_done}
 use Rattle.parse_expr.proofs.Ends.{Suffixes, no_longer}
-use Rattle.parse_stmt.specs.Steps.{Turn, repeat, all_of, comma_behind}
+use Rattle.parse_parts.specs.Steps.{Turn, repeat, all_of, comma_behind}
 use Rattle.parse_stmt.specs.Phrases.{Phrase, gives, Then, either, behind_mark, behind_word, Listed, last, another}
 use Rattle.parse_stmt.proofs.Exact.{next_kind, Follow, Exact, Starts, exact_pure, exact_then, exact_weaker, exact_behind, end_of_end, leave_next}
 use Rattle.parse_stmt.proofs.Smallest.{next_word, next_mark}

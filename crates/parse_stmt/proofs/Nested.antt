@@ -17,14 +17,14 @@ use Rattle.fb_ast.specs.declared.stmt.Stmt.TheVariants as s
 use Rattle.parse_expr.specs.Reading.{first, next, sees_word, Reader, Outcome, and_then, pure, take_token}
 use Rattle.parse_expr.proofs.Sound.{Done, bind, by_test, map_done}
 use Rattle.parse_expr.proofs.Ends.{Suffixes, no_longer}
-use Rattle.parse_stmt.specs.declared.kinds.Level.{Level}
-use Rattle.parse_stmt.specs.declared.kinds.Line.{Line}
-use Rattle.parse_stmt.specs.declared.kinds.Line.TheVariants as lines
-use Rattle.parse_stmt.specs.declared.kinds.Spot.{Spot}
-use Rattle.parse_stmt.specs.declared.kinds.Closer.{Closer}
-use Rattle.parse_stmt.specs.declared.kinds.Closer.TheVariants as closers
-use Rattle.parse_stmt.specs.Words.{level_within, line_within}
-use Rattle.parse_stmt.specs.Steps.{place_at, last_before, sees_sep, repeat}
+use Rattle.parse_parts.specs.declared.kinds.Level.{Level}
+use Rattle.parse_parts.specs.declared.kinds.Line.{Line}
+use Rattle.parse_parts.specs.declared.kinds.Line.TheVariants as lines
+use Rattle.parse_parts.specs.declared.kinds.Spot.{Spot}
+use Rattle.parse_parts.specs.declared.kinds.Closer.{Closer}
+use Rattle.parse_parts.specs.declared.kinds.Closer.TheVariants as closers
+use Rattle.parse_parts.specs.Words.{level_within, line_within}
+use Rattle.parse_parts.specs.Steps.{place_at, last_before, sees_sep, repeat}
 use Rattle.parse_stmt.specs.Blocks.{sees_end, closed}
 use Rattle.parse_stmt.specs.Blocks as reading
 use Rattle.parse_stmt.specs.Phrases.{Phrase, gives, Then, either, word, sep, expression}

@@ -18,10 +18,10 @@ use Rattle.parse_expr.specs.Expr.{at_level, begins, begins_as}
 use Rattle.parse_expr.specs.Faults.{is_refused_kind}
 use Rattle.parse_expr.proofs.Refused.{nowhere}
 use Rattle.parse_expr.proofs.Twins.{Place, Gap, Weak, Empty, empty_end}
-use Rattle.parse_stmt.specs.declared.kinds.Line.{Line}
-use Rattle.parse_stmt.specs.declared.kinds.Level.{Level}
-use Rattle.parse_stmt.specs.declared.kinds.Lead.TheVariants as leads
-use Rattle.parse_stmt.specs.Words.{is_sep, word_lead, lead_of, allowed}
+use Rattle.parse_parts.specs.declared.kinds.Line.{Line}
+use Rattle.parse_parts.specs.declared.kinds.Level.{Level}
+use Rattle.parse_parts.specs.declared.kinds.Lead.TheVariants as leads
+use Rattle.parse_parts.specs.Words.{is_sep, word_lead, lead_of, allowed}
 use Rattle.parse_stmt.proofs.Smallest.{word_is}
 
 -- ---- what begins something, and nothing else

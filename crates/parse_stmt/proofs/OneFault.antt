@@ -14,7 +14,7 @@ use Rattle.parse_expr.specs.Expr.{fault_place}
 use Rattle.parse_expr.proofs.Firsts.{further}
 use Rattle.parse_expr.proofs.FirstFault.{meet}
 use Rattle.parse_expr.proofs.Fills.{Failed}
-use Rattle.parse_stmt.specs.declared.kinds.Found.{Found}
+use Rattle.parse_stmt.specs.declared.module.Found.{Found}
 use Rattle.parse_stmt.specs.Module.{module_, told, tree_of}
 use Rattle.parse_stmt.specs.Texts.{IsText}
 use Rattle.parse_stmt.specs.Faults.{Begins, HasKind, FirstAt}

@@ -15,9 +15,10 @@ use Rattle.fb_ast.specs.declared.stmt.Cases.TheVariants as cases
 use Rattle.parse_expr.specs.Reading.{first, next, same_word, is_word, sees_word, Outcome, and_then, pure}
 use Rattle.parse_expr.proofs.Sound.{Done, bind}
 use Rattle.parse_expr.proofs.Ends.{Suffixes}
-use Rattle.parse_stmt.specs.Words.{until_of}
-use Rattle.parse_stmt.specs.Steps.{place_at, whole, sees_value, sees_name, is_name, any_name, value_behind}
-use Rattle.parse_stmt.specs.Blocks.{until_at, comparison_at}
+use Rattle.parse_parts.specs.Words.{until_of}
+use Rattle.parse_parts.specs.Steps.{place_at, whole, sees_value, sees_name, is_name, any_name, value_behind}
+use Rattle.parse_parts.specs.Cases.{until_at, comparison_at}
+use Rattle.parse_parts.specs.Cases as cases_read
 use Rattle.parse_stmt.specs.Blocks as reading
 use Rattle.parse_stmt.specs.Phrases.{Phrase, gives, Then, ◌>>◌, either, word, here, IsName, Listed, maybe, behind_word, expression, last, another}
 use Rattle.parse_stmt.specs.Phrases as phrases
@@ -98,7 +99,7 @@ unfolding first
 none_until [] is = refl
 none_until (t ∷ ts) is = no_until t.kind is
 
-test_sound : (deep : ℕ) → (ts : List Token) (o : Option Until) → until_at (first ts) ≡ o → Done (maybe (grammar.test (suc deep)) ts) (reading.test_by (suc deep) (place_at ts) o ts)
+test_sound : (deep : ℕ) → (ts : List Token) (o : Option Until) → until_at (first ts) ≡ o → Done (maybe (grammar.test (suc deep)) ts) (cases_read.test_by (suc deep) (place_at ts) o ts)
 test_sound deep ts None is = inr (refl, refl)
 test_sound deep ts (Some which) is =
     bind (expression (suc deep) (next ts)) (maybe (grammar.test (suc deep)) ts) (whole (suc deep) (next ts)) _ ((exact_whole deep).sound (next ts))
@@ -110,12 +111,12 @@ test_sound deep ts (Some which) is =
     }))
 
 test_read : (deep : ℕ) → (ts : List Token) (which : Until) (between : List Token) (x : Expr) (rest : List Token) → Chosen until_at ts which between → expression (suc deep) between x rest → closes (next_kind rest) ≡ true
-    → reading.test_by (suc deep) (place_at ts) (until_at (first ts)) ts ≡ Ok (Some (record { at = place_at ts; word = which; condition = x }), rest)
+    → cases_read.test_by (suc deep) (place_at ts) (until_at (first ts)) ts ≡ Ok (Some (record { at = place_at ts; word = which; condition = x }), rest)
 test_read deep ts which between x rest c t f =
     rw (c.is) (ap (λ (o : Outcome Expr). and_then o (λ y r. Ok (Some (record { at = place_at ts; word = which; condition = y }), r)))
     ((exact_whole deep).finds (next ts) x rest (subst (λ (m : List Token). expression (suc deep) m x rest) c.behind t) (closes_expression (next_kind rest) f)))
 
-test_finds : (deep : ℕ) → (ts : List Token) (a : Option Test) (rest : List Token) → maybe (grammar.test (suc deep)) ts a rest → closes (next_kind rest) ≡ true → reading.test_by (suc deep) (place_at ts) (until_at (first ts)) ts ≡ Ok (a, rest)
+test_finds : (deep : ℕ) → (ts : List Token) (a : Option Test) (rest : List Token) → maybe (grammar.test (suc deep)) ts a rest → closes (next_kind rest) ≡ true → cases_read.test_by (suc deep) (place_at ts) (until_at (first ts)) ts ≡ Ok (a, rest)
 test_finds deep ts a rest (inl t) f =
     let h = t.front in let c = h.back in let v = c.back in
     let whole_is : rest ≡ v.between = t.back.1 ∙ v.back.1 in
@@ -131,12 +132,12 @@ test_within deep ts a rest (inl t) =
     rw (t.back.1 ∙ v.back.1) (end_of_end ((exact_whole deep).within c.between v.given v.between v.front) (rw (c.front.behind, h.front.1) (leave_next ts)))
 test_within deep ts a rest (inr t) = rw (t.1) (same_end ts)
 
-pub exact_any_test : (deep : ℕ) → Exact (reading.any_test (suc deep)) (maybe (grammar.test (suc deep))) closes
-unfolding reading.any_test
+pub exact_any_test : (deep : ℕ) → Exact (cases_read.any_test (suc deep)) (maybe (grammar.test (suc deep))) closes
+unfolding cases_read.any_test
 exact_any_test deep = record { sound = λ ts. test_sound deep ts (until_at (first ts)) refl; finds = test_finds deep; within = test_within deep }
 
-pub exact_last_test : (deep : ℕ) → (one : Option Test) → Exact (reading.last_test (suc deep) (is_some one)) (grammar.last_test (suc deep) one) closes
-unfolding reading.last_test
+pub exact_last_test : (deep : ℕ) → (one : Option Test) → Exact (cases_read.last_test (suc deep) (is_some one)) (grammar.last_test (suc deep) one) closes
+unfolding cases_read.last_test
 exact_last_test deep None = exact_any_test deep
 exact_last_test deep (Some other) = exact_gives None closes
 
@@ -147,25 +148,25 @@ abbrev only_is : Follow
 only_is (Some (kinds.Word w.KwIs)) = true
 only_is other = false
 
-exact_is : (deep : ℕ) → (at : Span) → Exact (reading.is_case (suc deep) at) (Then (Chosen comparison_at) (λ which. Then (expression (suc deep)) (λ x. gives (case.Is at which x)))) comma_or_end
-unfolding reading.is_case
-exact_is deep at = exact_chosen comparison_at (reading.is_by (suc deep) at) (λ which ts. and_then (whole (suc deep) ts) (λ x. pure (case.Is at which x))) (λ which. Then (expression (suc deep)) (λ x. gives (case.Is at which x))) comma_or_end
+exact_is : (deep : ℕ) → (at : Span) → Exact (cases_read.is_case (suc deep) at) (Then (Chosen comparison_at) (λ which. Then (expression (suc deep)) (λ x. gives (case.Is at which x)))) comma_or_end
+unfolding cases_read.is_case
+exact_is deep at = exact_chosen comparison_at (cases_read.is_by (suc deep) at) (λ which ts. and_then (whole (suc deep) ts) (λ x. pure (case.Is at which x))) (λ which. Then (expression (suc deep)) (λ x. gives (case.Is at which x))) comma_or_end
     (λ ts P. tt) (λ which ts. refl) (λ which. exact_weaker (exact_made (λ x. case.Is at which x) (exact_whole deep)) comma_expression)
 
-exact_from : (deep : ℕ) → (low : Expr) → Exact (reading.case_from (suc deep) low) (either (word w.KwTo >> Then (expression (suc deep)) (λ high. gives (case.Range low high))) (gives (case.Value low))) comma_or_end
-unfolding reading.case_from
+exact_from : (deep : ℕ) → (low : Expr) → Exact (cases_read.case_from (suc deep) low) (either (word w.KwTo >> Then (expression (suc deep)) (λ high. gives (case.Range low high))) (gives (case.Value low))) comma_or_end
+unfolding cases_read.case_from
 exact_from deep low = exact_behind (sees_word w.KwTo) (exact_weaker (exact_made (λ high. case.Range low high) (exact_whole deep)) comma_expression) (exact_gives (case.Value low) comma_or_end)
     (word_none (case.Value low) w.KwTo comma_or_end refl)
 
-pub exact_case : (deep : ℕ) → Exact (reading.one_case (suc deep)) (grammar.one_case (suc deep)) comma_or_end
-unfolding reading.one_case
+pub exact_case : (deep : ℕ) → Exact (cases_read.one_case (suc deep)) (grammar.one_case (suc deep)) comma_or_end
+unfolding cases_read.one_case
 exact_case deep = as_exact (ended_behind (sees_word w.KwIs) (λ at. as_ended (exact_is deep at))
     (as_ended (exact_then (exact_whole deep) (λ low. exact_from deep low) (λ low. starts_either comma_or_end ends_expression (starts_word w.KwTo _ comma_or_end ends_expression refl) (starts_gives (case.Value low) comma_or_end ends_expression comma_expression))))
     (λ ts a rest t f. (value_no_word ts (value_seen deep ts t.given t.between t.front)).0))
 
-pub exact_cases_list : (deep : ℕ) → Exact (reading.case_list (suc deep)) (Listed (grammar.one_case (suc deep))) closes
-unfolding reading.case_list reading.case_turn
-exact_cases_list deep = exact_list (reading.one_case (suc deep)) (grammar.one_case (suc deep)) comma_or_end closes (exact_case deep) closes_comma refl refl
+pub exact_cases_list : (deep : ℕ) → Exact (cases_read.case_list (suc deep)) (Listed (grammar.one_case (suc deep))) closes
+unfolding cases_read.case_list cases_read.case_turn
+exact_cases_list deep = exact_list (cases_read.one_case (suc deep)) (grammar.one_case (suc deep)) comma_or_end closes (exact_case deep) closes_comma refl refl
 
 is_not_else : (ts : List Token) → sees_word w.KwIs ts ≡ true → sees_word w.KwElse ts ≡ false
 is_not_else ts is = no_word w.KwElse only_is ts refl (ap only_is (next_word w.KwIs ts is)) (sees_word w.KwElse ts) refl
@@ -178,6 +179,6 @@ cases_no_else : (deep : ℕ) → (ts : List Token) (all : List Case) (rest : Lis
 cases_no_else deep ts all rest (last a b x t) = case_no_else deep ts x rest t
 cases_no_else deep ts all rest (another a between b x behind t comma l) = case_no_else deep ts x between t
 
-pub exact_cases : (deep : ℕ) → Exact (reading.cases_ (suc deep)) (grammar.all_cases (suc deep)) closes
-unfolding reading.cases_
+pub exact_cases : (deep : ℕ) → Exact (cases_read.cases_ (suc deep)) (grammar.all_cases (suc deep)) closes
+unfolding cases_read.cases_
 exact_cases deep = exact_behind (sees_word w.KwElse) (exact_gives cases.Else closes) (exact_made (λ all. cases.List all) (exact_cases_list deep)) (λ ts a rest t f. cases_no_else deep ts t.given t.between t.front)

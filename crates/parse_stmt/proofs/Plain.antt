@@ -21,11 +21,11 @@ use Rattle.parse_expr.specs.Expr.{Measured, suffix_at, expr, level, operand, pri
 use Rattle.parse_expr.specs.Grammar.{primary as a_primary, nothing as nothing_behind}
 use Rattle.parse_expr.proofs.Sound.{Done, bind, by_test, map_done}
 use Rattle.parse_expr.proofs.Turned.{suffixes_none, climb_none}
-use Rattle.parse_stmt.specs.Words.{assignment_of}
-use Rattle.parse_stmt.specs.Steps.{whole, sees_value, sees_name, is_name, no_value, any_value}
-use Rattle.parse_stmt.specs.Steps as steps
-use Rattle.parse_stmt.specs.Simple.{assignment_at, assign, assign_by, must_assign, may_assign, values, value_turn, arguments, call_name, named, is_call, headed, goes_on, sees_bare, valued, sees_open_behind, called, with_place}
-use Rattle.parse_stmt.specs.Simple as reading
+use Rattle.parse_parts.specs.Words.{assignment_of}
+use Rattle.parse_parts.specs.Steps.{whole, sees_value, sees_name, is_name, no_value, any_value}
+use Rattle.parse_parts.specs.Steps as steps
+use Rattle.parse_parts.specs.Simple.{assignment_at, assign, assign_by, must_assign, may_assign, values, value_turn, arguments, call_name, named, is_call, headed, goes_on, sees_bare, valued, sees_open_behind, called, with_place}
+use Rattle.parse_parts.specs.Simple as reading
 use Rattle.parse_stmt.specs.Phrases.{Phrase, gives, Then, ◌>>◌, either, any_token, mark, word, IsName, Listed, maybe, expression, place, last, another}
 use Rattle.parse_stmt.specs.Statements.{Chosen, is_alone, call_only}
 use Rattle.parse_stmt.specs.Statements as grammar

@@ -20,9 +20,9 @@ use Rattle.parse_expr.proofs.Refused.{refusals}
 use Rattle.parse_expr.proofs.Fills.{Failed, FaultOf, Next, failed_then, failed_pure, map_failed}
 use Rattle.parse_expr.proofs.Rowed.{Whole, NoRoom}
 use Rattle.parse_expr.proofs.Begun.{begun}
-use Rattle.parse_stmt.specs.Steps.{sees_value, no_value, pass_by, repeat, comma_behind}
-use Rattle.parse_stmt.specs.Steps as steps
-use Rattle.parse_stmt.specs.Simple.{assignment_at, assign, assign_by, must_assign, may_assign, value_turn, values, arguments, call_name, named, is_call, headed, sees_bare, sees_open_behind, valued, called}
+use Rattle.parse_parts.specs.Steps.{sees_value, no_value, pass_by, repeat, comma_behind}
+use Rattle.parse_parts.specs.Steps as steps
+use Rattle.parse_parts.specs.Simple.{assignment_at, assign, assign_by, must_assign, may_assign, value_turn, values, arguments, call_name, named, is_call, headed, sees_bare, sees_open_behind, valued, called}
 use Rattle.parse_stmt.proofs.Heads.{regroup}
 use Rattle.parse_stmt.proofs.Smallest.{exact_name}
 use Rattle.parse_stmt.proofs.Plain.{bare_is, name_stands}

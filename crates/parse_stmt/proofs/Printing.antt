@@ -16,9 +16,9 @@ use Rattle.fb_ast.specs.declared.stmt.Stmt.TheVariants as s
 use Rattle.parse_expr.specs.Reading.{first, next, same_mark, is_mark, sees, Reader, Outcome, and_then, pure, refusal}
 use Rattle.parse_expr.proofs.Sound.{Done, bind, by_test, map_done}
 use Rattle.parse_expr.proofs.Ends.{Suffixes}
-use Rattle.parse_stmt.specs.Steps.{place_at, whole, sees_value, no_value, pass_by, repeat}
-use Rattle.parse_stmt.specs.Simple.{sees_between, printed_value, print_turn, all_printed}
-use Rattle.parse_stmt.specs.Simple as reading
+use Rattle.parse_parts.specs.Steps.{place_at, whole, sees_value, no_value, pass_by, repeat}
+use Rattle.parse_parts.specs.Simple.{sees_between, printed_value, print_turn, all_printed}
+use Rattle.parse_parts.specs.Simple as reading
 use Rattle.parse_stmt.specs.Phrases.{gives, Then, ◌>>◌, any_token, expression}
 use Rattle.parse_stmt.specs.Statements.{AllPrinted, nothing, semicolon, comma, value}
 use Rattle.parse_stmt.proofs.Exact.{next_kind, Exact, same_end, end_of_end, leave_next}

@@ -15,17 +15,18 @@ use Rattle.fb_ast.specs.declared.stmt.Block.{Block}
 use Rattle.parse_expr.specs.Reading.{first, next, sees, sees_word, Reader, Outcome, and_then, pure, take_token}
 use Rattle.parse_expr.proofs.Sound.{Done, bind, map_done}
 use Rattle.parse_expr.proofs.Ends.{Suffixes}
-use Rattle.parse_stmt.specs.declared.kinds.Level.TheVariants as levels
-use Rattle.parse_stmt.specs.declared.kinds.Line.TheVariants as lines
-use Rattle.parse_stmt.specs.declared.kinds.Closer.{Closer}
-use Rattle.parse_stmt.specs.declared.kinds.Closer.TheVariants as closers
-use Rattle.parse_stmt.specs.declared.kinds.ProcedureWord.{ProcedureWord}
-use Rattle.parse_stmt.specs.declared.kinds.ProcedureWord.TheVariants as words
-use Rattle.parse_stmt.specs.Steps.{place_at, sees_name, is_name}
-use Rattle.parse_stmt.specs.Words.{operator_of}
+use Rattle.parse_parts.specs.declared.kinds.Level.TheVariants as levels
+use Rattle.parse_parts.specs.declared.kinds.Line.TheVariants as lines
+use Rattle.parse_parts.specs.declared.kinds.Closer.{Closer}
+use Rattle.parse_parts.specs.declared.kinds.Closer.TheVariants as closers
+use Rattle.parse_parts.specs.declared.kinds.ProcedureWord.{ProcedureWord}
+use Rattle.parse_parts.specs.declared.kinds.ProcedureWord.TheVariants as words
+use Rattle.parse_parts.specs.Steps.{place_at, sees_name, is_name}
+use Rattle.parse_parts.specs.Words.{operator_of}
 use Rattle.parse_stmt.specs.Blocks.{sees_end, closed}
 use Rattle.parse_stmt.specs.Blocks as blocks
-use Rattle.parse_stmt.specs.Procedures.{Opening, operator_at}
+use Rattle.parse_parts.specs.Heads.{Opening, operator_at}
+use Rattle.parse_parts.specs.Heads as heads
 use Rattle.parse_stmt.specs.Procedures as reading
 use Rattle.parse_stmt.specs.Module as types
 use Rattle.parse_stmt.specs.Phrases.{Phrase, gives, Then, ◌>>◌, either, word, mark, sep, IsName, taken, here, ty, behind_word}
@@ -185,13 +186,13 @@ function_start at n = starts_then closes head_first head_first (overload_starts 
     (λ more. starts_then closes as_only head_first (params_first as_only as_first) (λ all. starts_word w.KwAs _ closes as_only refl))
 
 -- a member of a Type, behind the dot
-exact_member_sub : (at : Span) (n : Name) → Exact (reading.member_sub at n) (Then phrases.name (λ m. Then (grammar.any_params false) (λ all. Then (behind_word w.KwAs ty) (λ t. gives (kind.MemberSub at n m all t, closers.Sub))))) closes
-unfolding reading.member_sub
+exact_member_sub : (at : Span) (n : Name) → Exact (heads.member_sub at n) (Then phrases.name (λ m. Then (grammar.any_params false) (λ all. Then (behind_word w.KwAs ty) (λ t. gives (kind.MemberSub at n m all t, closers.Sub))))) closes
+unfolding heads.member_sub
 exact_member_sub at n = exact_then exact_name (λ m. exact_then (exact_any_params false as_or_end refl) (λ all. exact_made (λ t. (kind.MemberSub at n m all t, closers.Sub)) (any_type_exact closes closes_pointer refl))
     (λ all. starts_then closes closes as_or_end (type_starts closes closes_as) (λ t. starts_gives _ closes closes (same_under closes)))) (λ m ts a rest t f. refl)
 
-exact_member_function : (at : Span) (n : Name) → Exact (reading.member_function at n) (Then phrases.name (λ m. Then (grammar.any_params false) (λ all. Then (behind_word w.KwAs ty) (λ t. gives (kind.MemberFunction at n m all t, closers.Function))))) closes
-unfolding reading.member_function
+exact_member_function : (at : Span) (n : Name) → Exact (heads.member_function at n) (Then phrases.name (λ m. Then (grammar.any_params false) (λ all. Then (behind_word w.KwAs ty) (λ t. gives (kind.MemberFunction at n m all t, closers.Function))))) closes
+unfolding heads.member_function
 exact_member_function at n = exact_then exact_name (λ m. exact_then (exact_any_params false as_or_end refl) (λ all. exact_made (λ t. (kind.MemberFunction at n m all t, closers.Function)) (any_type_exact closes closes_pointer refl))
     (λ all. starts_then closes closes as_or_end (type_starts closes closes_as) (λ t. starts_gives _ closes closes (same_under closes)))) (λ m ts a rest t f. refl)
 
@@ -199,46 +200,46 @@ exact_member_function at n = exact_then exact_name (λ m. exact_then (exact_any_
 sub_undotted : (n : Name) (at : Span) (ts : List Token) (o : Opening) (rest : List Token) → Then (grammar.sub_head at n false) (λ h. gives (kind.Module h, closers.Sub)) ts o rest → closes (next_kind rest) ≡ true → sees Dot ts ≡ false
 sub_undotted n at ts o rest t f = no_mark Dot head_first ts refl (head_start at n ts t.given t.between t.front (ap (λ (r : List Token). closes (next_kind r)) (sym t.back.1) ∙ f)) (sees Dot ts) refl
 
-exact_sub_behind : (at : Span) (n : Name) → Exact (reading.sub_behind at n) (grammar.sub_behind at n) closes
-unfolding reading.sub_behind reading.module_sub
+exact_sub_behind : (at : Span) (n : Name) → Exact (heads.sub_behind at n) (grammar.sub_behind at n) closes
+unfolding heads.sub_behind heads.module_sub
 exact_sub_behind at n = exact_behind (sees Dot) (exact_member_sub at n) (exact_made (λ h. (kind.Module h, closers.Sub)) (exact_sub_head at n false)) (sub_undotted n at)
 
 function_undotted : (n : Name) (at : Span) (ts : List Token) (o : Opening) (rest : List Token) → Then (grammar.function_head at n false) (λ h. gives (kind.Module h, closers.Function)) ts o rest → closes (next_kind rest) ≡ true → sees Dot ts ≡ false
 function_undotted n at ts o rest t f = no_mark Dot head_first ts refl (function_start at n ts t.given t.between t.front (ap (λ (r : List Token). closes (next_kind r)) (sym t.back.1) ∙ f)) (sees Dot ts) refl
 
-exact_function_behind : (at : Span) (n : Name) → Exact (reading.function_behind at n) (grammar.function_behind at n) closes
-unfolding reading.function_behind reading.module_function
+exact_function_behind : (at : Span) (n : Name) → Exact (heads.function_behind at n) (grammar.function_behind at n) closes
+unfolding heads.function_behind heads.module_function
 exact_function_behind at n = exact_behind (sees Dot) (exact_member_function at n) (exact_made (λ h. (kind.Module h, closers.Function)) (exact_function_head at n false)) (function_undotted n at)
 
-exact_sub_opened : (at : Span) → Exact (reading.opened words.Sub at) (Then phrases.name (λ n. grammar.sub_behind at n)) closes
-unfolding reading.sub_opened
+exact_sub_opened : (at : Span) → Exact (heads.opened words.Sub at) (Then phrases.name (λ n. grammar.sub_behind at n)) closes
+unfolding heads.sub_opened
 exact_sub_opened at = exact_then exact_name (λ n. exact_sub_behind at n) (λ n ts a rest t f. refl)
 
-exact_function_opened : (at : Span) → Exact (reading.opened words.Function at) (Then phrases.name (λ n. grammar.function_behind at n)) closes
-unfolding reading.function_opened
+exact_function_opened : (at : Span) → Exact (heads.opened words.Function at) (Then phrases.name (λ n. grammar.function_behind at n)) closes
+unfolding heads.function_opened
 exact_function_opened at = exact_then exact_name (λ n. exact_function_behind at n) (λ n ts a rest t f. refl)
 
-exact_constructor : (at : Span) → Exact (reading.opened words.Constructor at) (grammar.constructor at) closes
-unfolding reading.constructor
+exact_constructor : (at : Span) → Exact (heads.opened words.Constructor at) (grammar.constructor at) closes
+unfolding heads.constructor
 exact_constructor at = exact_then exact_name (λ n. exact_made (λ all. (kind.Constructor at n all, closers.Constructor)) (exact_any_params false closes refl)) (λ n ts a rest t f. refl)
 
-exact_destructor : (at : Span) → Exact (reading.opened words.Destructor at) (grammar.destructor at) closes
-unfolding reading.destructor
+exact_destructor : (at : Span) → Exact (heads.opened words.Destructor at) (grammar.destructor at) closes
+unfolding heads.destructor
 exact_destructor at = exact_then exact_name (λ n. exact_then (exact_no_params closes refl) (λ u. exact_gives (kind.Destructor at n, closers.Destructor) closes) (λ u. starts_gives _ closes closes (same_under closes))) (λ n ts a rest t f. refl)
 
-exact_let : (at : Span) → Exact (reading.let_operator at) (grammar.let_operator at) closes
-unfolding reading.let_operator
+exact_let : (at : Span) → Exact (heads.let_operator at) (grammar.let_operator at) closes
+unfolding heads.let_operator
 exact_let at = exact_then exact_name (λ n. exact_then (exact_mark Dot) (λ u. exact_then exact_here (λ let_at. exact_then (exact_word w.KwLet)
     (λ v. exact_weaker (exact_made (λ p. (kind.Let at n let_at p, closers.Operator)) (exact_one_param false)) (λ o f. refl)) (λ v ts a rest t f. refl))
     (λ let_at ts a rest t f. refl)) (λ u ts a rest t f. refl)) (λ n ts a rest t f. refl)
 
-exact_two_params : Exact reading.two_params grammar.two_params always
-unfolding reading.two_params
+exact_two_params : Exact heads.two_params grammar.two_params always
+unfolding heads.two_params
 exact_two_params = exact_then (exact_mark Open) (λ u. exact_then (exact_param false) (λ one. exact_then (exact_mark Comma) (λ v. exact_then (exact_param false) (λ other. exact_then (exact_mark Close)
     (λ x. exact_gives (one, other) always) (λ x ts a rest t f. refl)) (λ other. starts_mark Close _ always in_params refl)) (λ v ts a rest t f. refl)) (λ one. starts_mark Comma _ always in_params refl)) (λ u ts a rest t f. refl)
 
-exact_mark_operator : (at : Span) → Exact (reading.mark_operator at) (grammar.mark_operator at) closes
-unfolding reading.mark_operator
+exact_mark_operator : (at : Span) → Exact (heads.mark_operator at) (grammar.mark_operator at) closes
+unfolding heads.mark_operator
 exact_mark_operator at = exact_then exact_here (λ mark_at. exact_then exact_operator (λ which. exact_then exact_two_params (λ both. exact_then (exact_word w.KwAs)
     (λ u. exact_weaker (exact_made (λ t. (kind.Operator at which mark_at both.0 both.1 t, closers.Operator)) exact_type) closes_pointer)
     (λ u ts a rest t f. refl)) (λ both ts a rest t f. refl)) (λ which ts a rest t f. refl)) (λ mark_at ts a rest t f. refl)
@@ -259,8 +260,8 @@ operator_unnamed ts true is o table = named_operator ts is o table
 mark_unnamed : (at : Span) (ts : List Token) (o : Opening) (rest : List Token) → grammar.mark_operator at ts o rest → sees_name ts ≡ false
 mark_unnamed at ts o rest t = operator_unnamed ts (sees_name ts) refl t.back.given (ap (λ (m : List Token). operator_at (first m)) (sym t.front.1) ∙ t.back.front.is)
 
-pub exact_operator_opened : (at : Span) → Exact (reading.opened words.Operator at) (either (grammar.let_operator at) (grammar.mark_operator at)) closes
-unfolding reading.operator_behind
+pub exact_operator_opened : (at : Span) → Exact (heads.opened words.Operator at) (either (grammar.let_operator at) (grammar.mark_operator at)) closes
+unfolding heads.operator_behind
 exact_operator_opened at = exact_choose sees_name (exact_let at) (exact_mark_operator at) (λ ts o rest t f. name_seen ts t.given t.between t.front) (λ ts o rest t f. mark_unnamed at ts o rest t)
 
 -- ---- whole procedures
@@ -310,20 +311,20 @@ operator_by : (at : Span) (ts : List Token) (o : Opening) (rest : List Token) �
 operator_by at ts o rest (inl t) = closer_is o (closer_of o _ closers.Operator t.back.back.back.back.back.0) operator_same
 operator_by at ts o rest (inr t) = closer_is o (closer_of o _ closers.Operator t.back.back.back.back.back.0) operator_same
 
-exact_sub_parts : (deep room : ℕ) → (at : Span) → Exact (parts_read deep room (reading.opened words.Sub) at) (Parts deep room (λ at. Then phrases.name (λ n. grammar.sub_behind at n)) at) closes
-exact_sub_parts deep room = exact_parts deep room (reading.opened words.Sub) (λ at. Then phrases.name (λ n. grammar.sub_behind at n)) exact_sub_opened (λ at ts o rest t. sub_by at t.given t.between o rest t.back)
+exact_sub_parts : (deep room : ℕ) → (at : Span) → Exact (parts_read deep room (heads.opened words.Sub) at) (Parts deep room (λ at. Then phrases.name (λ n. grammar.sub_behind at n)) at) closes
+exact_sub_parts deep room = exact_parts deep room (heads.opened words.Sub) (λ at. Then phrases.name (λ n. grammar.sub_behind at n)) exact_sub_opened (λ at ts o rest t. sub_by at t.given t.between o rest t.back)
 
-exact_function_parts : (deep room : ℕ) → (at : Span) → Exact (parts_read deep room (reading.opened words.Function) at) (Parts deep room (λ at. Then phrases.name (λ n. grammar.function_behind at n)) at) closes
-exact_function_parts deep room = exact_parts deep room (reading.opened words.Function) (λ at. Then phrases.name (λ n. grammar.function_behind at n)) exact_function_opened (λ at ts o rest t. function_by at t.given t.between o rest t.back)
+exact_function_parts : (deep room : ℕ) → (at : Span) → Exact (parts_read deep room (heads.opened words.Function) at) (Parts deep room (λ at. Then phrases.name (λ n. grammar.function_behind at n)) at) closes
+exact_function_parts deep room = exact_parts deep room (heads.opened words.Function) (λ at. Then phrases.name (λ n. grammar.function_behind at n)) exact_function_opened (λ at ts o rest t. function_by at t.given t.between o rest t.back)
 
-exact_constructor_parts : (deep room : ℕ) → (at : Span) → Exact (parts_read deep room (reading.opened words.Constructor) at) (Parts deep room grammar.constructor at) closes
-exact_constructor_parts deep room = exact_parts deep room (reading.opened words.Constructor) grammar.constructor exact_constructor (λ at ts o rest t. closer_is o (closer_of o _ closers.Constructor t.back.back.0) constructor_same)
+exact_constructor_parts : (deep room : ℕ) → (at : Span) → Exact (parts_read deep room (heads.opened words.Constructor) at) (Parts deep room grammar.constructor at) closes
+exact_constructor_parts deep room = exact_parts deep room (heads.opened words.Constructor) grammar.constructor exact_constructor (λ at ts o rest t. closer_is o (closer_of o _ closers.Constructor t.back.back.0) constructor_same)
 
-exact_destructor_parts : (deep room : ℕ) → (at : Span) → Exact (parts_read deep room (reading.opened words.Destructor) at) (Parts deep room grammar.destructor at) closes
-exact_destructor_parts deep room = exact_parts deep room (reading.opened words.Destructor) grammar.destructor exact_destructor (λ at ts o rest t. closer_is o (closer_of o _ closers.Destructor t.back.back.0) destructor_same)
+exact_destructor_parts : (deep room : ℕ) → (at : Span) → Exact (parts_read deep room (heads.opened words.Destructor) at) (Parts deep room grammar.destructor at) closes
+exact_destructor_parts deep room = exact_parts deep room (heads.opened words.Destructor) grammar.destructor exact_destructor (λ at ts o rest t. closer_is o (closer_of o _ closers.Destructor t.back.back.0) destructor_same)
 
-exact_operator_parts : (deep room : ℕ) → (at : Span) → Exact (parts_read deep room (reading.opened words.Operator) at) (Parts deep room (λ at. either (grammar.let_operator at) (grammar.mark_operator at)) at) closes
-exact_operator_parts deep room = exact_parts deep room (reading.opened words.Operator) (λ at. either (grammar.let_operator at) (grammar.mark_operator at)) exact_operator_opened operator_by
+exact_operator_parts : (deep room : ℕ) → (at : Span) → Exact (parts_read deep room (heads.opened words.Operator) at) (Parts deep room (λ at. either (grammar.let_operator at) (grammar.mark_operator at)) at) closes
+exact_operator_parts deep room = exact_parts deep room (heads.opened words.Operator) (λ at. either (grammar.let_operator at) (grammar.mark_operator at)) exact_operator_opened operator_by
 
 abbrev pub OpenedPhrase : ProcedureWord → Span → Phrase Opening
 OpenedPhrase words.Sub at = Then phrases.name (λ n. grammar.sub_behind at n)
@@ -340,7 +341,7 @@ begin_word words.Constructor = w.KwConstructor
 begin_word words.Destructor = w.KwDestructor
 begin_word words.Operator = w.KwOperator
 
-exact_all_parts : (deep room : ℕ) → (which : ProcedureWord) (at : Span) → Exact (parts_read deep room (reading.opened which) at) (Parts deep room (OpenedPhrase which) at) closes
+exact_all_parts : (deep room : ℕ) → (which : ProcedureWord) (at : Span) → Exact (parts_read deep room (heads.opened which) at) (Parts deep room (OpenedPhrase which) at) closes
 exact_all_parts deep room words.Sub at = exact_sub_parts deep room at
 exact_all_parts deep room words.Function at = exact_function_parts deep room at
 exact_all_parts deep room words.Constructor at = exact_constructor_parts deep room at

@@ -9,7 +9,7 @@ use Rattle.parse_expr.specs.declared.stop.Stop.TheVariants as stops
 use Rattle.parse_expr.specs.Faults.{is_refused_kind}
 use Rattle.parse_expr.specs.Reading.{Outcome}
 use Rattle.parse_expr.proofs.Fills.{Failed}
-use Rattle.parse_stmt.specs.declared.kinds.Found.{Found}
+use Rattle.parse_stmt.specs.declared.module.Found.{Found}
 use Rattle.parse_stmt.specs.Module.{module_}
 use Rattle.parse_stmt.specs.Texts.{Items}
 use Rattle.parse_stmt.specs.Faults.{Begins, BeginsAtAnyDepth, TakesOperand, TakesType, TakesStatement, TakesMember, RefusedThere, TakesEnd, HasKind, Tells}

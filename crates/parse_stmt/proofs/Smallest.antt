@@ -24,9 +24,9 @@ use Rattle.parse_expr.proofs.Levels as levels
 use Rattle.parse_expr.proofs.Levels.{none_comes}
 use Rattle.parse_expr.proofs.Turned.{climb_none}
 use Rattle.parse_expr.proofs.Complete.{complete, type_is}
-use Rattle.parse_stmt.specs.declared.kinds.Line.{Line}
-use Rattle.parse_stmt.specs.Steps.{place_at, sees_sep, extra, whole}
-use Rattle.parse_stmt.specs.Steps as reading
+use Rattle.parse_parts.specs.declared.kinds.Line.{Line}
+use Rattle.parse_parts.specs.Steps.{place_at, sees_sep, extra, whole}
+use Rattle.parse_parts.specs.Steps as reading
 use Rattle.parse_stmt.specs.Phrases as grammar
 use Rattle.parse_stmt.specs.Phrases.{Phrase, gives, Then, either, taken, IsName, mark, word, any_token}
 use Rattle.parse_stmt.proofs.Exact.{next_kind, Follow, always, Exact, Starts, exact_taken, same_end, leave_next}

@@ -10,7 +10,7 @@ use Rattle.parse_expr.specs.Reading.{first, is_mark, refusal}
 use Rattle.parse_expr.specs.Faults.{is_refused_kind}
 use Rattle.parse_expr.proofs.Refused.{refusals}
 use Rattle.parse_expr.proofs.Firsts.{head_or}
-use Rattle.parse_stmt.specs.Steps.{kind_or, astray, extra_at, extra}
+use Rattle.parse_parts.specs.Steps.{kind_or, astray, extra_at, extra}
 
 -- ---- how deep a completion may be
 

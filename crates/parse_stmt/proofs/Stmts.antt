@@ -13,15 +13,15 @@ use Rattle.fb_ast.specs.declared.stmt.Stmt.{Stmt}
 use Rattle.fb_ast.specs.declared.stmt.Stmt.TheVariants as s
 use Rattle.parse_expr.specs.Reading.{first, next, is_word, sees_word, Reader, Outcome}
 use Rattle.parse_expr.proofs.Sound.{Done, map_done}
-use Rattle.parse_stmt.specs.declared.kinds.Level.{Level}
-use Rattle.parse_stmt.specs.declared.kinds.Line.{Line}
-use Rattle.parse_stmt.specs.declared.kinds.Spot.{Spot}
-use Rattle.parse_stmt.specs.declared.kinds.Lead.{Lead}
-use Rattle.parse_stmt.specs.declared.kinds.Lead.TheVariants as leads
-use Rattle.parse_stmt.specs.declared.kinds.Closer.{Closer}
-use Rattle.parse_stmt.specs.declared.kinds.Closer.TheVariants as closers
-use Rattle.parse_stmt.specs.Words.{level_within, line_within, lead_of, is_sep}
-use Rattle.parse_stmt.specs.Steps.{sees_sep, sees_value}
+use Rattle.parse_parts.specs.declared.kinds.Level.{Level}
+use Rattle.parse_parts.specs.declared.kinds.Line.{Line}
+use Rattle.parse_parts.specs.declared.kinds.Spot.{Spot}
+use Rattle.parse_parts.specs.declared.kinds.Lead.{Lead}
+use Rattle.parse_parts.specs.declared.kinds.Lead.TheVariants as leads
+use Rattle.parse_parts.specs.declared.kinds.Closer.{Closer}
+use Rattle.parse_parts.specs.declared.kinds.Closer.TheVariants as closers
+use Rattle.parse_parts.specs.Words.{level_within, line_within, lead_of, is_sep}
+use Rattle.parse_parts.specs.Steps.{sees_sep, sees_value}
 use Rattle.parse_stmt.specs.Blocks.{sees_end, closed}
 use Rattle.parse_stmt.specs.Blocks as reading
 use Rattle.parse_stmt.specs.Phrases.{Phrase, Then, gives, maybe, any_token, expression}

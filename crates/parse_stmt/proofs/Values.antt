@@ -20,9 +20,9 @@ use Rattle.parse_expr.specs.Rows.{Row, start_of, word_start, mark_start, begins_
 use Rattle.parse_expr.specs.Expr.{begins, begins_as}
 use Rattle.parse_expr.specs.Grammar.{row_of, Is, Expression, primary, suffix, prefix, binary}
 use Rattle.parse_expr.proofs.Sound.{Done}
-use Rattle.parse_stmt.specs.Words.{assignment_of}
-use Rattle.parse_stmt.specs.Steps.{sees_value, no_value, pass_by, any_value}
-use Rattle.parse_stmt.specs.Simple.{goes_on}
+use Rattle.parse_parts.specs.Words.{assignment_of}
+use Rattle.parse_parts.specs.Steps.{sees_value, no_value, pass_by, any_value}
+use Rattle.parse_parts.specs.Simple.{goes_on}
 use Rattle.parse_stmt.specs.Phrases.{gives, Then, maybe, expression}
 use Rattle.parse_stmt.proofs.Exact.{next_kind, Follow, Exact, Starts, exact_weaker, exact_choose, same_end}
 use Rattle.parse_stmt.proofs.Smallest.{exact_whole}

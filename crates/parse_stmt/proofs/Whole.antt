@@ -18,20 +18,21 @@ use Rattle.parse_expr.specs.declared.stop.ParseErr.{ParseErr}
 use Rattle.parse_expr.specs.Reading.{first, next, is_word, sees, sees_word, Reader, Outcome, and_then, pure}
 use Rattle.parse_expr.proofs.Sound.{Done, bind, by_test, map_done}
 use Rattle.parse_expr.proofs.Ends.{Suffixes, no_longer}
-use Rattle.parse_stmt.specs.declared.kinds.Level.TheVariants as levels
-use Rattle.parse_stmt.specs.declared.kinds.Line.TheVariants as lines
-use Rattle.parse_stmt.specs.declared.kinds.Spot.{Spot}
-use Rattle.parse_stmt.specs.declared.kinds.Lead.{Lead}
-use Rattle.parse_stmt.specs.declared.kinds.Lead.TheVariants as leads
-use Rattle.parse_stmt.specs.declared.kinds.ProcedureWord.{ProcedureWord}
-use Rattle.parse_stmt.specs.declared.kinds.ProcedureWord.TheVariants as words
-use Rattle.parse_stmt.specs.declared.kinds.Found.{Found}
-use Rattle.parse_stmt.specs.Words.{lead_of}
-use Rattle.parse_stmt.specs.Steps.{words_before, sees_sep, repeat, all_of}
-use Rattle.parse_stmt.specs.Steps as steps
+use Rattle.parse_parts.specs.declared.kinds.Level.TheVariants as levels
+use Rattle.parse_parts.specs.declared.kinds.Line.TheVariants as lines
+use Rattle.parse_parts.specs.declared.kinds.Spot.{Spot}
+use Rattle.parse_parts.specs.declared.kinds.Lead.{Lead}
+use Rattle.parse_parts.specs.declared.kinds.Lead.TheVariants as leads
+use Rattle.parse_parts.specs.declared.kinds.ProcedureWord.{ProcedureWord}
+use Rattle.parse_parts.specs.declared.kinds.ProcedureWord.TheVariants as words
+use Rattle.parse_stmt.specs.declared.module.Found.{Found}
+use Rattle.parse_parts.specs.Words.{lead_of}
+use Rattle.parse_parts.specs.Steps.{words_before, sees_sep, repeat, all_of}
+use Rattle.parse_parts.specs.Steps as steps
 use Rattle.parse_stmt.specs.Blocks as blocks
 use Rattle.parse_stmt.specs.Procedures as procedures
-use Rattle.parse_stmt.specs.Module.{declare, type_def, ended_by, ended_item, main_stmt, ended_stmt, function_begins, procedure_word, item_by, one_item, more_items, item_turn, item_at, module_, told, tree_of}
+use Rattle.parse_parts.specs.Members.{type_def}
+use Rattle.parse_stmt.specs.Module.{declare, ended_by, ended_item, main_stmt, ended_stmt, function_begins, procedure_word, item_by, one_item, more_items, item_turn, item_at, module_, told, tree_of}
 use Rattle.parse_stmt.specs.Phrases.{Phrase, IsName}
 use Rattle.parse_stmt.specs.Statements as statements
 use Rattle.parse_stmt.specs.Texts.{Items, none, blank, last, some, IsText}

@@ -13,16 +13,16 @@ use Rattle.fb_ast.specs.declared.stmt.Storage.{Storage}
 use Rattle.fb_ast.specs.declared.stmt.Test.{Test}
 use Rattle.parse_expr.specs.Reading.{Outcome}
 use Rattle.parse_expr.proofs.Sound.{Done, map_done}
-use Rattle.parse_stmt.specs.declared.kinds.Level.{Level}
-use Rattle.parse_stmt.specs.declared.kinds.Level.TheVariants as levels
-use Rattle.parse_stmt.specs.declared.kinds.Line.{Line}
-use Rattle.parse_stmt.specs.declared.kinds.Line.TheVariants as lines
-use Rattle.parse_stmt.specs.declared.kinds.Lead.{Lead}
-use Rattle.parse_stmt.specs.declared.kinds.Lead.TheVariants as leads
-use Rattle.parse_stmt.specs.declared.kinds.Closer.{Closer}
-use Rattle.parse_stmt.specs.Procedures.{Opening}
-use Rattle.parse_stmt.specs.Words.{level_within, line_within, lead_of}
-use Rattle.parse_stmt.specs.Variables.{may_share}
+use Rattle.parse_parts.specs.declared.kinds.Level.{Level}
+use Rattle.parse_parts.specs.declared.kinds.Level.TheVariants as levels
+use Rattle.parse_parts.specs.declared.kinds.Line.{Line}
+use Rattle.parse_parts.specs.declared.kinds.Line.TheVariants as lines
+use Rattle.parse_parts.specs.declared.kinds.Lead.{Lead}
+use Rattle.parse_parts.specs.declared.kinds.Lead.TheVariants as leads
+use Rattle.parse_parts.specs.declared.kinds.Closer.{Closer}
+use Rattle.parse_parts.specs.Heads.{Opening}
+use Rattle.parse_parts.specs.Words.{level_within, line_within, lead_of}
+use Rattle.parse_parts.specs.Variables.{may_share}
 use Rattle.parse_stmt.specs.Phrases.{Phrase, Then, either, maybe, behind_mark, behind_word, Listed, last, another, sep, expression, place}
 use Rattle.parse_stmt.specs.Statements.{AllPrinted, nothing, semicolon, comma, value, Many, none, some, Statements, blank, Row}
 use Rattle.parse_stmt.specs.Statements as g

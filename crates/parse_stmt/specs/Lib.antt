@@ -1,7 +1,3 @@
-pub mod Words
-pub mod Steps
-pub mod Variables
-pub mod Simple
 pub mod Blocks
 pub mod Nests
 pub mod Procedures

@@ -1,112 +1,27 @@
--- Types, and what a module is made of.
+-- What a module is made of.
 use Rattle.std.specs.Prelude.{suc, ℕ, ◌+◌, Bool, true, false, if◌then◌else◌, List, [], ◌∷◌, ◌++◌, Option, Some, None, Result, Ok, Err}
-use Rattle.fb_base.specs.declared.fault.Span.{Span}
-use Rattle.fb_base.specs.declared.fault.FaultKind.TheVariants.{Expected, ExtraText}
+use Rattle.fb_base.specs.declared.fault.FaultKind.TheVariants.{ExtraText}
 use Rattle.fb_lexer.specs.TokenList.{TokenList}
 use Rattle.fb_lexer.specs.declared.token.Token.{Token}
 use Rattle.fb_lexer.specs.declared.token.Mark.TheVariants.{Equal}
 use Rattle.fb_lexer.specs.declared.word.Word.TheVariants as w
-use Rattle.fb_ast.specs.declared.part.Member.{Member}
-use Rattle.fb_ast.specs.declared.part.Member.TheVariants as member
 use Rattle.fb_ast.specs.declared.part.Item.{Item}
 use Rattle.fb_ast.specs.declared.part.Item.TheVariants as item
 use Rattle.fb_ast.specs.declared.stmt.Stmt.{Stmt}
 use Rattle.fb_ast.specs.declared.tree.Tree.{Tree}
-use Rattle.parse_expr.specs.declared.stop.Stop.TheVariants.{Fault}
 use Rattle.parse_expr.specs.declared.stop.ParseErr.{ParseErr}
-use Rattle.parse_expr.specs.Reading.{Reader, Outcome, first, next, sees, sees_word, expect_word, pure, refuse, ◌>>=◌, ◌>>◌, take_token}
-use Rattle.parse_expr.specs.Types.{type_name, name}
+use Rattle.parse_expr.specs.Reading.{Reader, Outcome, first, next, sees, sees_word, pure, ◌>>=◌, ◌>>◌, take_token}
 use Rattle.parse_expr.specs.Expr.{error_of}
-use Rattle.parse_stmt.specs.declared.kinds.Level.TheVariants as levels
-use Rattle.parse_stmt.specs.declared.kinds.Line.TheVariants as lines
-use Rattle.parse_stmt.specs.declared.kinds.ProcedureWord.{ProcedureWord}
-use Rattle.parse_stmt.specs.declared.kinds.ProcedureWord.TheVariants as words
-use Rattle.parse_stmt.specs.declared.kinds.Found.{Found}
-use Rattle.parse_stmt.specs.Steps.{place_at, here, words_before, sees_sep, sep, sees_name, Turn, all_of}
-use Rattle.parse_stmt.specs.Variables.{any_bounds}
+use Rattle.parse_parts.specs.declared.kinds.Level.TheVariants as levels
+use Rattle.parse_parts.specs.declared.kinds.Line.TheVariants as lines
+use Rattle.parse_parts.specs.declared.kinds.ProcedureWord.{ProcedureWord}
+use Rattle.parse_parts.specs.declared.kinds.ProcedureWord.TheVariants as words
+use Rattle.parse_parts.specs.Steps.{here, words_before, sees_sep, sep, Turn, all_of}
+use Rattle.parse_parts.specs.Heads.{declared}
+use Rattle.parse_parts.specs.Members.{type_def}
+use Rattle.parse_stmt.specs.declared.module.Found.{Found}
 use Rattle.parse_stmt.specs.Blocks.{stmt}
-use Rattle.parse_stmt.specs.Procedures.{any_params, no_params, one_param, declared_head, declared, procedure}
-
--- ---- Types
-
-unfoldable pub field : ℕ → Reader Member
-field most = do
-  n ← name
-  b ← any_bounds most
-  expect_word w.KwAs
-  pure (member.Field n b (← type_name))
-
--- behind Declare Operator
-unfoldable pub let_member : Span → Reader Member
-let_member at = do
-  let_at ← here
-  expect_word w.KwLet
-  pure (member.Let at let_at (← one_param true))
-
-unfoldable pub constructor_member : Span → Reader Member
-constructor_member at = do
-  word_at ← here
-  take_token
-  pure (member.Constructor at word_at (← any_params true))
-
-unfoldable pub destructor_member : Span → Reader Member
-destructor_member at = do
-  word_at ← here
-  take_token
-  no_params
-  pure (member.Destructor at word_at)
-
-unfoldable pub head_member : Span → Reader Member
-head_member at = do
-  h ← declared_head
-  pure (member.Declare at h)
-
--- behind Declare in a Type
-unfoldable pub declared_member : Span → Reader Member
-declared_member at = λ ts.
-    if sees_word w.KwConstructor ts then constructor_member at ts
-    else if sees_word w.KwDestructor ts then destructor_member at ts
-    else if sees_word w.KwOperator ts then let_member at (next ts)
-    else head_member at ts
-
--- a field or a Declare
-unfoldable pub one_member : ℕ → Reader Member
-one_member most = λ ts.
-    if sees_word w.KwDeclare ts then declared_member (place_at ts) (next ts)
-    else if sees_name ts then field most ts
-    else refuse ts
-
-unfoldable pub ended_member : List Member → Member → Reader (List Member × Bool)
-ended_member found x = sep lines.Free >> pure (found ++ x ∷ [], true)
-
-abbrev pub is_field : Member → Bool
-is_field (member.Field _ _ _) = true
-is_field other = false
-
-unfoldable pub has_field : List Member → Bool
-has_field [] = false
-has_field (m ∷ ms) = if is_field m then true else has_field ms
-
--- a Type has a field at least
-unfoldable pub member_turn : ℕ → Turn (List Member)
-member_turn most found = λ ts.
-    if sees_word w.KwEnd ts then (if has_field found then Ok ((found, false), ts) else Err (Fault Expected, ts))
-    else (one_member most >>= ended_member found) ts
-
-unfoldable pub members : ℕ → Reader (List Member)
-members most = all_of (member_turn most) []
-
--- a Type from its word on up to the word behind End
-unfoldable pub type_def : ℕ → Reader Item
-type_def most = do
-  at ← here
-  take_token
-  n ← name
-  sep lines.Free
-  all ← members most
-  expect_word w.KwEnd
-  expect_word w.KwType
-  pure (item.Type at n all)
+use Rattle.parse_stmt.specs.Procedures.{procedure}
 
 -- ---- the module
 

@@ -6,7 +6,7 @@ use Rattle.fb_lexer.specs.declared.token.Token.{Token}
 use Rattle.fb_ast.specs.declared.stmt.Stmt.{Stmt}
 use Rattle.parse_expr.specs.declared.stop.Stop.{Stop}
 use Rattle.parse_expr.specs.Reading.{Reads}
-use Rattle.parse_stmt.specs.declared.kinds.Spot.{Spot}
+use Rattle.parse_parts.specs.declared.kinds.Spot.{Spot}
 use Rattle.parse_stmt.specs.Blocks.{stmt}
 
 pub record Nests (room : ℕ) (pre : Global → MutBor (List Token) → ℕ → Spot → Type 0)

@@ -11,8 +11,8 @@ use Rattle.fb_ast.specs.declared.part.Name.{Name}
 use Rattle.fb_ast.specs.declared.ty.TypeName.{TypeName}
 use Rattle.parse_expr.specs.Reading.{next, sees, sees_word}
 use Rattle.parse_expr.specs.Grammar.{IsType, Is, Expression}
-use Rattle.parse_stmt.specs.declared.kinds.Line.{Line}
-use Rattle.parse_stmt.specs.Steps.{place_at, sees_sep}
+use Rattle.parse_parts.specs.declared.kinds.Line.{Line}
+use Rattle.parse_parts.specs.Steps.{place_at, sees_sep}
 
 -- ---- phrases
 

@@ -28,16 +28,16 @@ use Rattle.fb_ast.specs.declared.stmt.CaseBranch.{CaseBranch, roll-CaseBranch}
 use Rattle.fb_ast.specs.declared.stmt.Stmt.{Stmt}
 use Rattle.fb_ast.specs.declared.stmt.Stmt.TheVariants as s
 use Rattle.parse_expr.specs.Reading.{first, next, sees, sees_word}
-use Rattle.parse_stmt.specs.declared.kinds.Level.{Level}
-use Rattle.parse_stmt.specs.declared.kinds.Line.{Line}
-use Rattle.parse_stmt.specs.declared.kinds.Line.TheVariants as lines
-use Rattle.parse_stmt.specs.declared.kinds.Lead.{Lead}
-use Rattle.parse_stmt.specs.declared.kinds.Lead.TheVariants as leads
-use Rattle.parse_stmt.specs.Words.{level_within, line_within, lead_of}
-use Rattle.parse_stmt.specs.Steps.{place_at, last_before, sees_sep}
-use Rattle.parse_stmt.specs.Variables.{may_share}
-use Rattle.parse_stmt.specs.Simple.{assignment_at, is_call, exit_at, continue_at}
-use Rattle.parse_stmt.specs.Blocks.{until_at, comparison_at}
+use Rattle.parse_parts.specs.declared.kinds.Level.{Level}
+use Rattle.parse_parts.specs.declared.kinds.Line.{Line}
+use Rattle.parse_parts.specs.declared.kinds.Line.TheVariants as lines
+use Rattle.parse_parts.specs.declared.kinds.Lead.{Lead}
+use Rattle.parse_parts.specs.declared.kinds.Lead.TheVariants as leads
+use Rattle.parse_parts.specs.Words.{level_within, line_within, lead_of}
+use Rattle.parse_parts.specs.Steps.{place_at, last_before, sees_sep}
+use Rattle.parse_parts.specs.Variables.{may_share}
+use Rattle.parse_parts.specs.Simple.{assignment_at, is_call, exit_at, continue_at}
+use Rattle.parse_parts.specs.Cases.{until_at, comparison_at}
 use Rattle.parse_stmt.specs.Phrases.{Phrase, gives, ◌>>=◌, ◌>>◌, either, maybe, behind_mark, behind_word, before, mark, word, Listed, any_token, here, sep, name, ty, expression, place}
 
 -- ---- variables

@@ -22,13 +22,13 @@ use Rattle.fb_ast.specs.declared.stmt.Block.{Block}
 use Rattle.fb_ast.specs.declared.stmt.Stmt.{Stmt}
 use Rattle.fb_ast.specs.declared.tree.Tree.{Tree}
 use Rattle.parse_expr.specs.Reading.{next}
-use Rattle.parse_stmt.specs.declared.kinds.Level.TheVariants as levels
-use Rattle.parse_stmt.specs.declared.kinds.Line.TheVariants as lines
-use Rattle.parse_stmt.specs.declared.kinds.Closer.{Closer}
-use Rattle.parse_stmt.specs.declared.kinds.Closer.TheVariants as closers
-use Rattle.parse_stmt.specs.Steps.{words_before, sees_sep}
-use Rattle.parse_stmt.specs.Procedures.{operator_at, Opening}
-use Rattle.parse_stmt.specs.Module.{has_field}
+use Rattle.parse_parts.specs.declared.kinds.Level.TheVariants as levels
+use Rattle.parse_parts.specs.declared.kinds.Line.TheVariants as lines
+use Rattle.parse_parts.specs.declared.kinds.Closer.{Closer}
+use Rattle.parse_parts.specs.declared.kinds.Closer.TheVariants as closers
+use Rattle.parse_parts.specs.Steps.{words_before, sees_sep}
+use Rattle.parse_parts.specs.Heads.{operator_at, Opening}
+use Rattle.parse_parts.specs.Members.{has_field}
 use Rattle.parse_stmt.specs.Phrases.{Phrase, gives, ◌>>=◌, ◌>>◌, either, maybe, behind_mark, behind_word, mark, word, Listed, here, sep, name, ty}
 use Rattle.parse_stmt.specs.Statements.{Chosen, end_of, body, stmt, bounds}
 

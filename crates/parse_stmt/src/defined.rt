@@ -3,13 +3,11 @@ ghost use Rattle.std.specs.Prelude.{◌≤◌};
 ghost use Rattle.parse_expr.specs.Reading.{Reads};
 ghost use Rattle.parse_stmt.specs.Procedures as spec;
 
-use crate::kinds::{Closer, Level, Line, ProcedureWord};
 use crate::nest::Nest;
-use crate::procedures::opened;
 use crate::statements::stmt;
-use crate::steps::{place_at, sep, words_before};
 use fb_ast::{Block, Item, Procedure, ProcedureKind};
 use parse_expr::{Cursor, Stop};
+use parse_parts::{Closer, Level, Line, ProcedureWord, opened, place_at, sep, words_before};
 use std::alloc::Global;
 
 // The statements of a procedure, each at most so deep.

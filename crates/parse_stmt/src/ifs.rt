@@ -1,17 +1,18 @@
 //! If.
 ghost use Rattle.std.specs.Prelude.{◌≡◌};
 ghost use Rattle.parse_expr.specs.Reading.{Reads};
-ghost use Rattle.parse_stmt.specs.Steps.{Turns};
+ghost use Rattle.parse_parts.specs.Steps.{Turns};
 ghost use Rattle.parse_stmt.specs.Blocks as spec;
 ghost use Rattle.parse_stmt.specs.Nests.{Nests};
 
-use crate::kinds::{Closer, Level, Line, Spot, level_within, line_within};
 use crate::nest::{Nest, end_of};
-use crate::steps::{place_at, sees_sep, sep, whole};
 use fb_ast::{Block, Branch, Expr, Stmt};
 use fb_base::Span;
 use fb_lexer::Word;
 use parse_expr::{Cursor, Stop};
+use parse_parts::{
+    Closer, Level, Line, Spot, level_within, line_within, place_at, sees_sep, sep, whole,
+};
 use sqlite_items::Items;
 use std::alloc::Global;
 

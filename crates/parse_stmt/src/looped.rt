@@ -1,18 +1,19 @@
 //! For, While, Do, Select and Scope.
 ghost use Rattle.std.specs.Prelude.{◌≡◌};
 ghost use Rattle.parse_expr.specs.Reading.{Reads};
-ghost use Rattle.parse_stmt.specs.Steps.{Turns};
+ghost use Rattle.parse_parts.specs.Steps.{Turns};
 ghost use Rattle.parse_stmt.specs.Blocks as spec;
 ghost use Rattle.parse_stmt.specs.Nests.{Nests};
 
-use crate::cases::{any_test, cases_, last_test};
-use crate::kinds::{Closer, Level, Line, Spot};
 use crate::nest::{Nest, end_of};
-use crate::steps::{any_name, any_type, place_at, sep, value_behind, whole};
 use fb_ast::{Block, CaseBranch, Expr, Name, Stmt, TypeName};
 use fb_base::Span;
 use fb_lexer::{Mark, Word};
 use parse_expr::{Cursor, Stop, name};
+use parse_parts::{
+    Closer, Level, Line, Spot, any_name, any_test, any_type, cases_, last_test, place_at, sep,
+    value_behind, whole,
+};
 use sqlite_items::Items;
 use std::alloc::Global;
 

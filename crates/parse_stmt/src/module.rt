@@ -2,23 +2,29 @@
 ghost use Rattle.std.specs.Prelude.{◌≡◌, ◌≤◌, ◌+◌, IfOk};
 ghost use Rattle.parse_expr.specs.Reading.{Reads, first};
 ghost use Rattle.parse_stmt.specs.Module as spec;
-ghost use Rattle.parse_stmt.specs.Steps.{Turns};
+ghost use Rattle.parse_parts.specs.Steps.{Turns};
 
 use crate::defined::procedure;
-use crate::kinds::{Found, Level, Line, ProcedureWord, Spot};
-use crate::members::type_def;
-use crate::procedures::declared;
 use crate::statements::stmt;
-use crate::steps::{place_at, sees_sep, sep, words_before};
 use fb_ast::{Item, Stmt};
 use fb_base::FaultKind;
 use fb_lexer::{Mark, Word};
 use parse_expr::{Cursor, Stop};
+use parse_parts::{
+    Level, Line, ProcedureWord, Spot, declared, place_at, sees_sep, sep, type_def, words_before,
+};
 use sqlite_items::Items;
 use std::alloc::Global;
 
 /// How deep a statement in a procedure may be: the procedure is one deeper.
 const ROOM: usize = 199;
+
+/// What there is of a module by now, and how many tokens its statements have.
+#[derive(Debug, Drop)]
+pub struct Found {
+    pub items: Items<Item>,
+    pub tokens: usize,
+}
 
 // Declare, which comes next.
 #[tactic(auto, unfolding(crate::specs::Module::declare))]

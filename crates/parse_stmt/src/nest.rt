@@ -1,16 +1,17 @@
 //! Blocks of statements. The reader of the statements inside is a parameter, so that each production is proved by itself.
 ghost use Rattle.std.specs.Prelude.{◌≡◌, Err};
 ghost use Rattle.parse_expr.specs.Reading.{Reads};
-ghost use Rattle.parse_stmt.specs.Steps.{Turns};
+ghost use Rattle.parse_parts.specs.Steps.{Turns};
 ghost use Rattle.parse_stmt.specs.Blocks as spec;
 ghost use Rattle.parse_stmt.specs.Nests.{Nests};
 
-use crate::kinds::{Closer, Level, Line, Spot, ends_with_end};
-use crate::steps::{astray, place_at, sees_sep, sees_value, sep};
 use fb_ast::{Block, Stmt};
 use fb_base::{FaultKind, Span};
 use fb_lexer::Word;
 use parse_expr::{Cursor, Stop};
+use parse_parts::{
+    Closer, Level, Line, Spot, astray, ends_with_end, place_at, sees_sep, sees_value, sep,
+};
 use sqlite_items::Items;
 use std::alloc::Global;
 

@@ -1,17 +1,16 @@
 //! If on one line.
 ghost use Rattle.std.specs.Prelude.{◌≡◌};
 ghost use Rattle.parse_expr.specs.Reading.{Reads};
-ghost use Rattle.parse_stmt.specs.Steps.{Turns};
+ghost use Rattle.parse_parts.specs.Steps.{Turns};
 ghost use Rattle.parse_stmt.specs.Blocks as spec;
 ghost use Rattle.parse_stmt.specs.Nests.{Nests};
 
-use crate::kinds::{Level, Line, Spot};
 use crate::nest::Nest;
-use crate::steps::{extra, last_before, place_at, sees_sep};
 use fb_ast::{Block, Expr, Stmt};
 use fb_base::{FaultKind, Span};
 use fb_lexer::Word;
 use parse_expr::{Cursor, Stop, room_for_one};
+use parse_parts::{Level, Line, Spot, extra, last_before, place_at, sees_sep};
 use sqlite_items::Items;
 use std::alloc::Global;
 

@@ -4,16 +4,14 @@ ghost use Rattle.parse_expr.specs.Reading.{Reads};
 ghost use Rattle.parse_stmt.specs.Blocks as spec;
 ghost use Rattle.parse_stmt.specs.Nests.{Nests};
 
-use crate::kinds::{Lead, Spot, lead_of, level_within, line_within};
 use crate::nest::Nest;
-use crate::simple::{
-    called, continue_, delete, end_, exit, line_input, print, result_, return_, valued,
-};
-use crate::steps::{EXPECTED, astray};
-use crate::variables::{constant, dim, static_};
 use fb_ast::Stmt;
 use fb_base::{FaultKind, Span};
 use parse_expr::{Cursor, Stop};
+use parse_parts::{
+    EXPECTED, Lead, Spot, astray, called, constant, continue_, delete, dim, end_, exit, lead_of,
+    level_within, line_input, line_within, print, result_, return_, static_, valued,
+};
 use std::alloc::Global;
 
 impl<F: Fn(Global, &mut Cursor<'_>, usize, Spot) -> Result<Stmt, Stop>> Nest<F> {

@@ -1,7 +1,7 @@
 use Rattle.std.proofs.Common.{◌≡◌, true, false, arith, rules}
 use Rattle.std.proofs.lemmas.Grind.{common_steps}
 use Rattle.parse_stmt.specs.Module.{module_, item_turn}
-use Rattle.parse_stmt.proofs.Loops.{one, on, last, out}
+use Rattle.parse_parts.proofs.Loops.{one, on, last, out}
 use Rattle.parse_stmt.proofs.module.module_.Goals as goal
 
 pub returns-in_err-more : goal.returns-in_err-more

@@ -1,5 +1,5 @@
 use Rattle.std.proofs.Common.{◌≡◌, ◌≤◌, ◌+◌, ◌-◌, ◌*◌, length, []}
-use Rattle.parse_stmt.specs.Steps.{repeat}
+use Rattle.parse_parts.specs.Steps.{repeat}
 use Rattle.parse_stmt.specs.Module.{item_turn}
 use Rattle.parse_stmt.proofs.module.module_.Given as goal
 

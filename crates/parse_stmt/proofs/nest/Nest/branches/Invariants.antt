@@ -1,5 +1,5 @@
 use Rattle.std.proofs.Common.{◌≡◌, ◌+◌, ◌-◌, length, [], ◌∷◌}
-use Rattle.parse_stmt.specs.Steps.{repeat}
+use Rattle.parse_parts.specs.Steps.{repeat}
 use Rattle.parse_stmt.specs.Blocks.{branch_turn, stmt}
 use Rattle.parse_stmt.proofs.nest.Nest.branches.Given as goal
 

@@ -1,0 +1,28 @@
+use Rattle.std.proofs.Common.{◌≡◌, true, false, arith, rules}
+use Rattle.std.proofs.lemmas.Grind.{common_steps}
+use Rattle.parse_parts.specs.Variables.{all_listed, listed_turn}
+use Rattle.parse_parts.proofs.Loops.{one, on, last, out}
+use Rattle.parse_parts.proofs.variables.all_listed.Goals as goal
+
+pub returns-in_err-more : goal.returns-in_err-more
+unfolding all_listed
+returns-in_err-more c =
+    let e = one (listed_turn 200) _ c.loop-turn._turn c.loop-turn.found c.loop-turn.cursor c.loop-turn.invariant c.loop-turn-test.true in
+    first_of (search rules, grind (arith, common_steps, e))
+
+pub returns-then-not-more : goal.returns-then-not-more
+unfolding all_listed
+returns-then-not-more c =
+    let stops : c.in_ok-more.more ≡ false = first_of (cc, search rules, grind (arith, common_steps)) in
+    last (listed_turn 200) _ c.loop-turn._turn c.loop-turn.found c.loop-turn.cursor c.loop-turn.invariant c.listed_turn.new.found c.in_ok-more.more c.listed_turn.new.cursor c.loop-turn-test.true c.in_ok-more.ensures stops
+
+pub loop-turn-preserved : goal.loop-turn-preserved
+loop-turn-preserved c =
+    let goes : c.in_ok-more.more ≡ true = first_of (cc, search rules, grind (arith, common_steps)) in
+    on (listed_turn 200) _ c.loop-turn._turn c.loop-turn.found c.loop-turn.cursor c.loop-turn.invariant c.listed_turn.new.found c.in_ok-more.more c.listed_turn.new.cursor c.loop-turn-test.true c.in_ok-more.ensures goes
+
+pub returns : goal.returns
+unfolding all_listed
+returns c =
+    let e = out (listed_turn 200) _ c.loop-turn._turn c.loop-turn.found c.loop-turn.cursor c.loop-turn.invariant c.loop-turn-test.false in
+    first_of (search rules, grind (arith, common_steps, e))

@@ -1,9 +1,0 @@
-use Rattle.std.proofs.Common.{◌≡◌, ◌≤◌, ◌+◌, ◌-◌}
-use Rattle.parse_stmt.specs.Steps.{words}
-use Rattle.parse_stmt.proofs.steps.words.Given as goal
-
-abbrev pub invariant-loop-turn : goal.invariant-loop-turn
-invariant-loop-turn l = record {
-  value : words l.count l.fn.cursor ≡ l.found + words (l.count - l._turn) l.cursor;
-  most : l.found ≤ l._turn;
-}
