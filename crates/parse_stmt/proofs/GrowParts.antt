@@ -32,9 +32,10 @@ use Rattle.parse_parts.specs.Steps as reading
 use Rattle.parse_parts.specs.Steps.{place_at, extra, sees_sep, sees_value, no_value, pass_by}
 use Rattle.parse_stmt.specs.Phrases.{Phrase, gives, Then, either, maybe, mark, word, IsName, ty, expression, place}
 use Rattle.parse_stmt.specs.Phrases as phrases
+use Rattle.parse_stmt.specs.Faults.{IsSample}
 use Rattle.parse_stmt.proofs.Smallest.{exact_name, exact_type, exact_whole, exact_place}
 use Rattle.parse_stmt.proofs.Values.{exact_passed}
-use Rattle.parse_stmt.proofs.Starts.{Reach, near, far, over, over_fits, over_far, starting, IsFree, Comes, Starts, starts_extra, starts_refusal, Unmarked, FirstOf, first_of}
+use Rattle.parse_stmt.proofs.Starts.{Reach, near, far, over, over_fits, over_far, starting, Comes, Starts, starts_extra, starts_refusal, Unmarked, FirstOf, first_of}
 use Rattle.parse_stmt.proofs.Wides.{widened, wide_expression, wide_place}
 use Rattle.parse_stmt.proofs.Likes.{Like, any, looks_mark, looks_word, like_expression, like_name, first_in, none_taken}
 use Rattle.parse_stmt.proofs.Grows.{Begun, Grows, grows_gives, grows_taken, grows_made, grows_behind, grows_choose, at_once, one_begun}
@@ -92,7 +93,7 @@ module _ (deep level : ℕ) (ts rest front : List Token) (is : ts ≡ front ++ r
   next_near OutOfProfile more n = tt
   next_near kind more n = absurd n
 
-  any_free : (t : Token) → FreeOperand t → IsFree t
+  any_free : (t : Token) → FreeOperand t → IsSample t
   any_free t (inl value) = inl value
   any_free t (inr type_word) = inr (inl type_word)
 

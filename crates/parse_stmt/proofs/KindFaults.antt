@@ -15,7 +15,7 @@ use Rattle.parse_expr.proofs.Twins.{Rooms, Near}
 use Rattle.parse_stmt.specs.declared.module.Found.{Found}
 use Rattle.parse_stmt.specs.Module.{module_}
 use Rattle.parse_stmt.specs.Texts.{IsTextWithin}
-use Rattle.parse_stmt.specs.Faults.{BeginsAtAnyDepth, RefusedThere, TakesEnd}
+use Rattle.parse_stmt.specs.Faults.{BeginsAtAnyDepth, IsSample, RefusedThere, TakesEnd}
 use Rattle.parse_stmt.proofs.Whole.{with_items}
 use Rattle.parse_stmt.proofs.Odd.{is_odd, is_end, Ends, Ended, Stand, odd_stand, end_stand}
 use Rattle.parse_stmt.proofs.Alike.{at_place}
@@ -44,6 +44,12 @@ end_kind : (kind : TokenKind) → (kind ≡ kinds.Colon) ⊎ (kind ≡ kinds.Lin
 end_kind kind (inl e) = ap is_end e
 end_kind kind (inr e) = ap is_end e
 
+odd_sample : (u : Token) → IsSample u → is_odd u.kind ≡ true
+odd_sample u (inl number) = ap is_odd number.1
+odd_sample u (inr (inl is)) = ap is_odd is
+odd_sample u (inr (inr (inl is))) = ap is_odd is
+odd_sample u (inr (inr (inr is))) = ap is_odd is
+
 module _ (front s : List Token) (t : Token) (kind : FaultKind) (is : module_ 200 199 (front ++ t ∷ s) ≡ Err (stops.Fault kind, t ∷ s)) where
   -- a text with another token there, whose reading goes on behind it
   other_clashes : (L : FaultKind → Type 0) (u : Token) (more : List Token) → Stand L t (u ∷ more) → (deep room : ℕ) → Rooms L 200 (suc deep) → Rooms L 199 room → ((x : Token) → Ended L x → 199 ≡ room) → (L kind → ⊥) → Text (suc deep) room (front ++ u ∷ more) → ⊥
@@ -68,16 +74,7 @@ module _ (front s : List Token) (t : Token) (kind : FaultKind) (is : module_ 200
 
   -- what is told of a word that this profile doesn't have is OutOfProfile where something may begin, unless it is the depth
   pub not_refused : (kind ≡ OutOfProfile → ⊥) → (kind ≡ DeepNesting → ⊥) → RefusedThere front t → ⊥
-  not_refused plain shallow r = elim r.here [
-    | inl a ↦ odd_clashes plain shallow r.word a.token (ap is_odd a.kind) a.begins
-    | inr rest ↦ elim rest [
-      | inl a ↦ odd_clashes plain shallow r.word a.token (ap is_odd a.kind) a.begins
-      | inr last ↦ elim last [
-        | inl a ↦ odd_clashes plain shallow r.word a.token (ap is_odd a.kind) a.begins
-        | inr a ↦ odd_clashes plain shallow r.word a.token (ap is_odd a.kind) a.begins
-      ]
-    ]
-  ]
+  not_refused plain shallow r = odd_clashes plain shallow r.word r.sample (odd_sample r.sample r.such) r.begins
 
   -- where another token is Expected no end would do
   pub no_end : kind ≡ Expected → TakesEnd front → ⊥

@@ -1,5 +1,5 @@
 -- Each kind of a fault has its reason.
-use Rattle.std.proofs.Common.{◌≡◌, ℕ, List, [], ◌∷◌, ◌++◌, Err, true, refl, sym, ap, ◌∙◌, subst, ◌⊎◌, inl, inr, append_assoc}
+use Rattle.std.proofs.Common.{◌≡◌, ℕ, List, [], ◌∷◌, ◌++◌, Err, true, refl, sym, ap, ◌∙◌, subst, append_assoc}
 use Rattle.fb_base.specs.declared.fault.FaultKind.{FaultKind}
 use Rattle.fb_base.specs.declared.fault.FaultKind.TheVariants.{DeepNesting, Expected, ExtraText, OutOfProfile}
 use Rattle.fb_lexer.specs.declared.token.Token.{Token}
@@ -12,9 +12,9 @@ use Rattle.parse_expr.proofs.Fills.{Failed}
 use Rattle.parse_stmt.specs.declared.module.Found.{Found}
 use Rattle.parse_stmt.specs.Module.{module_}
 use Rattle.parse_stmt.specs.Texts.{Items}
-use Rattle.parse_stmt.specs.Faults.{Begins, BeginsAtAnyDepth, TakesOperand, TakesType, TakesStatement, TakesMember, RefusedThere, TakesEnd, HasKind, Tells}
+use Rattle.parse_stmt.specs.Faults.{Begins, BeginsAtAnyDepth, RefusedThere, TakesEnd, HasKind}
 use Rattle.parse_stmt.proofs.Likes.{same_front}
-use Rattle.parse_stmt.proofs.Starts.{Reach, near, far, over, above, Starting, IsFree, same_head}
+use Rattle.parse_stmt.proofs.Starts.{Reach, near, far, over, above, Starting, same_head}
 use Rattle.parse_stmt.proofs.EarlyFaults.{none_deeper}
 use Rattle.parse_stmt.proofs.GrowTexts.{TextBegun, module_fails}
 
@@ -34,6 +34,14 @@ near_begins front t g = record { more = g.more; last_line = 0; tree = tree_with 
 far_begins : (front : List Token) (t : Token) → Completed 202 200 front t → BeginsAtAnyDepth (front ++ t ∷ [])
 far_begins front t g = record { more_deep = 2; more_room = 1; begins = record { more = g.more; last_line = 0; tree = tree_with g.all g.count; are = (g.are, refl) } }
 
+-- what each kind tells of its place by itself
+abbrev Tells : List Token → Token → FaultKind → Type 0
+Tells front t OutOfProfile = RefusedThere front t
+Tells front t DeepNesting = BeginsAtAnyDepth (front ++ t ∷ [])
+Tells front t ExtraText = TakesEnd front
+Tells front t Expected = Unit {0}
+Tells front t kind = ⊥
+
 module _ (front s : List Token) (t : Token) where
   abbrev whole : List Token
   whole = front ++ t ∷ s
@@ -46,12 +54,6 @@ module _ (front s : List Token) (t : Token) where
       ap (λ (xs : List Token). xs ++ f.more) same ∙ ap (λ (xs : List Token). front ++ xs) x.is ∙ sym (append_assoc front (x.token ∷ []) x.behind) in
       record { more = x.behind; all = f.all; count = f.count; are = subst (λ (xs : List Token). Items (over reach 200) (above reach 199) xs f.all f.count) all_same f.are }
 
-  free_there : (u : Token) → IsFree u → BeginsAtAnyDepth (front ++ u ∷ []) → TakesOperand front ⊎ TakesType front ⊎ TakesStatement front ⊎ TakesMember front
-  free_there u (inl value) b = inl (record { token = u; value = value.0; kind = value.1; begins = b })
-  free_there u (inr (inl is)) b = inr (inl (record { token = u; kind = is; begins = b }))
-  free_there u (inr (inr (inl is))) b = inr (inr (inl (record { token = u; kind = is; begins = b })))
-  free_there u (inr (inr (inr is))) b = inr (inr (inr (record { token = u; kind = is; begins = b })))
-
   extra_told : TextBegun near 199 199 whole ExtraText (t ∷ s) → TakesEnd front
   extra_told f = record { token = f.starts.token; kind = f.starts.such; begins = near_begins front f.starts.token (goes_on near ExtraText f f.starts) }
 
@@ -60,7 +62,7 @@ module _ (front s : List Token) (t : Token) where
       let refused = f.starts.0 in
       let free = f.starts.1 in
       let same : refused.token ≡ t = sym (same_head t refused.token s refused.behind refused.is) in
-      record { word = subst (λ (u : Token). is_refused_kind u.kind ≡ true) same refused.such; here = free_there free.token free.such (far_begins front free.token (goes_on far OutOfProfile f free)) }
+      record { word = subst (λ (u : Token). is_refused_kind u.kind ≡ true) same refused.such; sample = free.token; such = free.such; begins = far_begins front free.token (goes_on far OutOfProfile f free) }
 
   deep_told : TextBegun far 199 199 whole DeepNesting (t ∷ s) → BeginsAtAnyDepth (front ++ t ∷ [])
   deep_told f =

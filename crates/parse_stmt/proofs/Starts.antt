@@ -5,12 +5,12 @@ use Rattle.fb_base.specs.declared.fault.FaultKind.TheVariants.{DeepNesting, Expe
 use Rattle.fb_lexer.specs.declared.token.Token.{Token}
 use Rattle.fb_lexer.specs.declared.token.TokenKind.TheVariants as kinds
 use Rattle.fb_lexer.specs.declared.token.Mark.{Mark}
-use Rattle.fb_lexer.specs.declared.word.Word.TheVariants as w
 use Rattle.parse_expr.specs.Reading.{first, is_mark, refusal}
 use Rattle.parse_expr.specs.Faults.{is_refused_kind}
 use Rattle.parse_expr.proofs.Refused.{refusals}
 use Rattle.parse_expr.proofs.Firsts.{head_or}
 use Rattle.parse_parts.specs.Steps.{kind_or, astray, extra_at, extra}
+use Rattle.parse_stmt.specs.Faults.{IsSample}
 
 -- ---- how deep a completion may be
 
@@ -82,10 +82,6 @@ pub record Starting (S : Token → Type 0) (more : List Token) : Type 0 where
 abbrev pub IsEnd : Token → Type 0
 IsEnd t = (t.kind ≡ kinds.Colon) ⊎ (t.kind ≡ kinds.LineEnd)
 
--- a token that is nothing but an operand, a type, or the beginning of a statement or of a member
-abbrev pub IsFree : Token → Type 0
-IsFree t = ((value : ℕ) × (t.kind ≡ kinds.Number value)) ⊎ ((t.kind ≡ kinds.Word w.KwInteger) ⊎ ((t.kind ≡ kinds.Word w.KwPrint) ⊎ (t.kind ≡ kinds.Word w.KwDeclare)))
-
 -- the token that comes next
 abbrev pub Comes : List Token → Token → Type 0
 Comes rest t = (behind : List Token) × (rest ≡ t ∷ behind)
@@ -99,7 +95,7 @@ IsRefused t = is_refused_kind t.kind ≡ true
 abbrev pub Starts : Reach → FaultKind → List Token → List Token → Type 0
 Starts reach Expected rest more = Unit {0}
 Starts reach ExtraText rest more = Starting IsEnd more
-Starts reach OutOfProfile rest more = OnFar reach (Starting IsRefused rest × Starting IsFree more)
+Starts reach OutOfProfile rest more = OnFar reach (Starting IsRefused rest × Starting IsSample more)
 Starts reach DeepNesting rest more = OnFar reach (Starting (Comes rest) more)
 Starts reach kind rest more = ⊥
 
@@ -126,10 +122,10 @@ unfolding extra
 starts_extra reach ts t m end = starts_extra_by reach (first ts) ts t m end
 
 -- where a number, a type, a statement or a member may begin
-pub starts_out : (reach : Reach) (rest : List Token) (other : Token) (m : List Token) → Starting IsRefused rest → IsFree other → Starts reach OutOfProfile rest (other ∷ m)
+pub starts_out : (reach : Reach) (rest : List Token) (other : Token) (m : List Token) → Starting IsRefused rest → IsSample other → Starts reach OutOfProfile rest (other ∷ m)
 starts_out reach rest other m refused free = on_far reach (refused, starting other m free)
 
-pub starts_refusal : (reach : Reach) (ts : List Token) (other : Token) (m : List Token) → IsFree other → Starts reach (refusal ts) ts (other ∷ m)
+pub starts_refusal : (reach : Reach) (ts : List Token) (other : Token) (m : List Token) → IsSample other → Starts reach (refusal ts) ts (other ∷ m)
 unfolding refusal first
 starts_refusal reach [] other m free = tt
 starts_refusal reach (t ∷ ts) other m free = elim (refusals t.kind) [ inl is ↦ subst (λ (k : FaultKind). Starts reach k (t ∷ ts) (other ∷ m)) (sym is) tt | inr is ↦ subst (λ (k : FaultKind). Starts reach k (t ∷ ts) (other ∷ m)) (sym is.0) (starts_out reach (t ∷ ts) other m (starting t ts is.1) free) ]
@@ -152,7 +148,7 @@ astray_as other (t ∷ ts) = elim (refusals t.kind) [ inl is ↦ subst (λ (k : 
 abbrev pub Unmarked : Token → Type 0
 Unmarked t = (which : Mark) → is_mark which t.kind ≡ false
 
-unmarked_free : (t : Token) → IsFree t → Unmarked t
+unmarked_free : (t : Token) → IsSample t → Unmarked t
 unmarked_free t (inl p) which = ap (is_mark which) p.1
 unmarked_free t (inr (inl p)) which = ap (is_mark which) p
 unmarked_free t (inr (inr (inl p))) which = ap (is_mark which) p
@@ -202,7 +198,7 @@ starts_itself reach DeepNesting rest more s other t behind is plain m = on_far r
 starts_itself reach kind rest more s other t behind is plain m = absurd s
 
 -- another token in place of the word that is refused
-pub starts_instead : (reach : Reach) (rest more : List Token) → Starts reach OutOfProfile rest more → (other : Token) (m : List Token) → IsFree other → Starts reach OutOfProfile rest (other ∷ m)
+pub starts_instead : (reach : Reach) (rest more : List Token) → Starts reach OutOfProfile rest more → (other : Token) (m : List Token) → IsSample other → Starts reach OutOfProfile rest (other ∷ m)
 starts_instead reach rest more s other m free = map_far reach (λ p. (p.0, starting other m free)) s
 
 -- ---- the two reaches

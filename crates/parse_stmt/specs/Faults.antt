@@ -36,35 +36,17 @@ pub record BeginsAtAnyDepth (ts : List Token) : Type 0 where
   pub more_room : ℕ
   pub begins : BeginsDeeper more_deep more_room ts
 
--- Behind these tokens an operand may begin: a number may stand there.
-pub record TakesOperand (front : List Token) : Type 0 where
-  pub token : Token
-  pub value : ℕ
-  pub kind : token.kind ≡ kinds.Number value
-  pub begins : BeginsAtAnyDepth (front ++ token ∷ [])
-
--- Here a type: the word Integer may stand there.
-pub record TakesType (front : List Token) : Type 0 where
-  pub token : Token
-  pub kind : token.kind ≡ kinds.Word w.KwInteger
-  pub begins : BeginsAtAnyDepth (front ++ token ∷ [])
-
--- Here a statement: the word Print may stand there.
-pub record TakesStatement (front : List Token) : Type 0 where
-  pub token : Token
-  pub kind : token.kind ≡ kinds.Word w.KwPrint
-  pub begins : BeginsAtAnyDepth (front ++ token ∷ [])
-
--- Here a field: the word Declare may stand there, which stands at the module's level, too, where a statement may begin.
-pub record TakesMember (front : List Token) : Type 0 where
-  pub token : Token
-  pub kind : token.kind ≡ kinds.Word w.KwDeclare
-  pub begins : BeginsAtAnyDepth (front ++ token ∷ [])
+-- what stands for all operands, all types, all statements and all fields where one of them may begin: a number, Integer, Print,
+-- and Declare, which may stand where a field may, and at the module's level, where a statement may begin, too
+abbrev pub IsSample : Token → Type 0
+IsSample t = ((value : ℕ) × (t.kind ≡ kinds.Number value)) ⊎ ((t.kind ≡ kinds.Word w.KwInteger) ⊎ ((t.kind ≡ kinds.Word w.KwPrint) ⊎ (t.kind ≡ kinds.Word w.KwDeclare)))
 
 -- a word that this profile doesn't have, where an operand, a type, a statement or a field may begin
 pub record RefusedThere (front : List Token) (t : Token) : Type 0 where
   pub word : is_refused_kind t.kind ≡ true
-  pub here : TakesOperand front ⊎ TakesType front ⊎ TakesStatement front ⊎ TakesMember front
+  pub sample : Token
+  pub such : IsSample sample
+  pub begins : BeginsAtAnyDepth (front ++ sample ∷ [])
 
 -- Behind these tokens a statement, a member or an item may end: a colon or a line's end may stand there.
 pub record TakesEnd (front : List Token) : Type 0 where
@@ -80,14 +62,6 @@ HasKind front t DeepNesting = (RefusedThere front t → ⊥) × BeginsAtAnyDepth
 HasKind front t ExtraText = (RefusedThere front t → ⊥) × (BeginsAtAnyDepth (front ++ t ∷ []) → ⊥) × TakesEnd front
 HasKind front t Expected = (RefusedThere front t → ⊥) × (BeginsAtAnyDepth (front ++ t ∷ []) → ⊥) × (TakesEnd front → ⊥)
 HasKind front t kind = ⊥
-
--- what each kind tells of its place by itself
-abbrev pub Tells : List Token → Token → FaultKind → Type 0
-Tells front t OutOfProfile = RefusedThere front t
-Tells front t DeepNesting = BeginsAtAnyDepth (front ++ t ∷ [])
-Tells front t ExtraText = TakesEnd front
-Tells front t Expected = Unit {0}
-Tells front t kind = ⊥
 
 -- The first token up to which no text agrees with the tokens: some text begins with those before it, and none with its
 -- token too, not even a deeper one, unless only the depth is wrong. It is wrong in the way that the fault's kind says. Where

@@ -20,6 +20,11 @@ fn fault_of(alloc: Global, text: &str) -> Result<Option<Fault>, ParseErr> {
     }
 }
 
+fn fault(kind: FaultKind, line: u32, col: u32) -> Option<Fault> {
+    let at = Span { line, col };
+    Some(Fault { kind, at })
+}
+
 #[test]
 fn faults_at_their_places(rt: HostRuntime) -> Result<(), Fail> {
     for (text, kind, line, col) in [
@@ -52,11 +57,11 @@ fn faults_at_their_places(rt: HostRuntime) -> Result<(), Fail> {
         ("Dim a(1 To) As Long", FaultKind::Expected, 1, 11),
         ("Dim a = 1", FaultKind::Expected, 1, 7),
     ] {
-        let wanted = Fault {
-            kind,
-            at: Span { line, col },
-        };
-        assert_eq!(rt; fault_of(rt.alloc(), text)?, Some(wanted), "{text}");
+        assert_eq!(rt;
+            fault_of(rt.alloc(), text)?,
+            fault(kind, line, col),
+            "{text}"
+        );
     }
     Ok(())
 }
@@ -86,6 +91,19 @@ fn faults_in_blocks(rt: HostRuntime) -> Result<(), Fail> {
         ("Select Case 1 : : Case 2", FaultKind::Expected, 1, 17),
         ("Select Case 1 : Case Is 2", FaultKind::Expected, 1, 25),
         ("Scope : End If", FaultKind::ExtraText, 1, 13),
+    ] {
+        assert_eq!(rt;
+            fault_of(rt.alloc(), text)?,
+            fault(kind, line, col),
+            "{text}"
+        );
+    }
+    Ok(())
+}
+
+#[test]
+fn faults_in_procedures(rt: HostRuntime) -> Result<(), Fail> {
+    for (text, kind, line, col) in [
         ("Sub f : End Function", FaultKind::ExtraText, 1, 13),
         ("Sub f\nEnd", FaultKind::Expected, 2, 1),
         ("Sub f(ByVal As Long)", FaultKind::Expected, 1, 13),
@@ -106,11 +124,11 @@ fn faults_in_blocks(rt: HostRuntime) -> Result<(), Fail> {
         ),
         ("Type T :\n x As Long : End Type", FaultKind::Expected, 1, 9),
     ] {
-        let wanted = Fault {
-            kind,
-            at: Span { line, col },
-        };
-        assert_eq!(rt; fault_of(rt.alloc(), text)?, Some(wanted), "{text}");
+        assert_eq!(rt;
+            fault_of(rt.alloc(), text)?,
+            fault(kind, line, col),
+            "{text}"
+        );
     }
     Ok(())
 }
