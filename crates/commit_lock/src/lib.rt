@@ -5,8 +5,6 @@ mod laws;
 mod lock;
 mod rules;
 mod seat;
-#[cfg(test)]
-mod tests;
 mod turn;
 mod views;
 

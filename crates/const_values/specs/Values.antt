@@ -73,12 +73,24 @@ unary Not (o.Value a) = o.Value (record { kind = common a.kind a.kind; word = 2 
 unary Address (o.Value a) = o.NoValue
 unary Deref (o.Value a) = o.NoValue
 
--- a word that converts, with one argument
+-- What stands behind a part: the part's fault goes before all else.
+abbrev pub after : Outcome → Outcome → Outcome
+after (o.Fault x) rest = o.Fault x
+after (o.Value a) rest = rest
+after o.NoValue rest = rest
+
+-- what has no value of its own comes to the first fault of its parts
+abbrev pub without_value : List Outcome → Outcome
+without_value [] = o.NoValue
+without_value (part ∷ parts) = after part (without_value parts)
+
+-- a word that converts, with one argument; every other word and number of arguments has no value
 abbrev pub called : CallWord → List Outcome → Outcome
 called (Convert k) (part ∷ []) = converted k part
-called word parts = o.NoValue
+called word parts = without_value parts
 
--- What an expression comes to, by what names stand for and what SizeOf gives for a type.
+-- What an expression comes to, by what names stand for and what SizeOf gives for a type, whose fault is that of the type.
+-- The name of a member, behind a point or an arrow, stands for nothing by itself.
 module _ (named : Span → List ℕ → Outcome) (sized : TypeName → Outcome) where
   abbrev mutual
     pub value_of : Expr → Outcome
@@ -89,18 +101,18 @@ module _ (named : Span → List ℕ → Outcome) (sized : TypeName → Outcome) 
     value_of (e.Name at name) = named at name
     value_of (e.This at) = o.NoValue
     value_of (e.Paren' at p inside) = value_in inside
-    value_of (e.New at ty) = o.NoValue
-    value_of (e.NewWith' at ty p args) = o.NoValue
-    value_of (e.NewArray' at ty p count) = o.NoValue
-    value_of (e.Cast' at ty p inside) = cast (written_kind ty.base ty.pointers) (value_in inside)
-    value_of (e.CPtr' at ty p inside) = o.NoValue
+    value_of (e.New at ty) = after (sized ty) o.NoValue
+    value_of (e.NewWith' at ty p args) = after (sized ty) (without_value (values_in args))
+    value_of (e.NewArray' at ty p count) = after (sized ty) (after (value_in count) o.NoValue)
+    value_of (e.Cast' at ty p inside) = after (sized ty) (cast (written_kind ty.base ty.pointers) (value_in inside))
+    value_of (e.CPtr' at ty p inside) = after (sized ty) (after (value_in inside) o.NoValue)
     value_of (e.SizeOf at ty) = sized ty
     value_of (e.IIf' at p c q a r b) = choice (value_in c) (value_in a) (value_in b)
     value_of (e.CallWord' at word p args) = called word (values_in args)
-    value_of (e.Call' at p callee q args) = o.NoValue
-    value_of (e.Index' at p pointer q index) = o.NoValue
-    value_of (e.Field' at p whole name) = o.NoValue
-    value_of (e.Arrow' at p pointer name) = o.NoValue
+    value_of (e.Call' at p callee q args) = after (value_in callee) (without_value (values_in args))
+    value_of (e.Index' at p pointer q index) = after (value_in pointer) (after (value_in index) o.NoValue)
+    value_of (e.Field' at p whole name) = after (value_in whole) o.NoValue
+    value_of (e.Arrow' at p pointer name) = after (value_in pointer) o.NoValue
     value_of (e.Unary' at op p inside) = unary op (value_in inside)
     value_of (e.Binary' at p left op place q right) = between op (value_in left) (value_in right)
 

@@ -20,7 +20,8 @@ pub trait Known {
     fn named(&self, at: Span, name: &[u8]) -> Outcome
         ensures { result ≡ named self.now at name.now };
 
-    /// What SizeOf gives for a type (FreeBASIC Manual, Sizeof).
+    /// What SizeOf gives for a type (FreeBASIC Manual, Sizeof): its size, no value where that isn't known, and a fault at
+    /// its place where what is written is no type. The fault counts wherever a type is written, the value in SizeOf alone.
     fn sized(&self, ty: &TypeName) -> Outcome
         ensures { result ≡ sized self.now ty.now };
 }

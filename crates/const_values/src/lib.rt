@@ -6,8 +6,6 @@ mod known;
 pub mod laws;
 mod operate;
 mod outcome;
-#[cfg(test)]
-mod tests;
 
 pub use evaluate::{constant, value};
 pub use known::Known;

@@ -15,6 +15,7 @@ ghost use Rattle.const_values.specs.Operators.{
   operated,
 };
 ghost use Rattle.const_values.specs.Values.{
+  after,
   literal,
   between,
   choice,
@@ -256,6 +257,23 @@ pub fn convert(kind: Kind, c: Constant) -> Constant
         kind,
         word: narrow(c.word, kind),
     }
+}
+
+/// What stands behind a part: the part's fault goes before all else.
+pub fn after(part: Outcome, rest: Outcome) -> Outcome
+    ensures { result ≡ after part rest }
+{
+    match part {
+        Outcome::Fault(_) => part,
+        Outcome::Value(_) | Outcome::NoValue => rest,
+    }
+}
+
+/// What has no value of its own, of one part.
+pub fn unvalued(part: Outcome) -> Outcome
+    ensures { result ≡ after part Outcome.NoValue }
+{
+    after(part, Outcome::NoValue)
 }
 
 /// What a conversion of a part gives.

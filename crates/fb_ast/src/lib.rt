@@ -16,6 +16,3 @@ pub use stmt::{
 };
 pub use tree::Tree;
 pub use ty::{Base, Ty, TypeName};
-
-#[cfg(test)]
-mod tests;

@@ -15,6 +15,12 @@ pub enum WhichSink {
 pub enum UsageWhy {
     /// The words aren't a command.
     Words,
+    /// A number isn't a row of decimal digits, or is outside its range.
+    BadNumber,
+    /// A number of workers is given beside a schedule to replay.
+    Excluded,
+    /// The command or the option is part of the language of commands, and isn't built yet.
+    NotBuilt,
 }
 
 /// What is wrong with the bytes of an image.

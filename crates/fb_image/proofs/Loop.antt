@@ -1,8 +1,8 @@
 -- Reading items one after the other, as a loop does.
 use Rattle.std.proofs.Common.{◌≡◌, ℕ, suc, ◌-◌, ◌+◌, ◌≤◌, ◌<◌, List, [], ◌∷◌, ◌++◌, Result, Ok, Err, refl, sym, ap, ◌∙◌, append_assoc, arith}
 use Rattle.std.proofs.lemmas.List.{append-nil}
-use Rattle.fb_image.specs.declared.fault.Stop.{Stop}
-use Rattle.fb_image.specs.declared.fault.Stop.TheVariants as stops
+use Rattle.fb_image.specs.declared.fault.ReadErr.{ReadErr}
+use Rattle.fb_image.specs.declared.fault.ReadErr.TheVariants as read_errs
 use Rattle.fb_image.specs.Answers.{Fails}
 use Rattle.fb_image.specs.Reading.{Fault, ◌>>=◌, many_at}
 
@@ -23,11 +23,11 @@ goes_on item next front count i low bytes x after pushed low' total lt h more st
     let one : with_front front (many_at item next low (count - i) bytes) ≡ with_front (front ++ x ∷ []) (many_at item next (next x) (count - (i + 1)) after) = rw (k, h) (regroup front x (many_at item next (next x) (count - (i + 1)) after)) in
     rw (more, step) (sym one ∙ so_far)
 
-pub ends : {A : Type 0} (item : ℕ → List ℕ → Result (A × List ℕ) Fault) (next : A → ℕ) (e : Stop) (front : List A) (count i low : ℕ) (bytes : List ℕ) (total : Result (List A × List ℕ) Fault)
+pub ends : {A : Type 0} (item : ℕ → List ℕ → Result (A × List ℕ) Fault) (next : A → ℕ) (e : ReadErr) (front : List A) (count i low : ℕ) (bytes : List ℕ) (total : Result (List A × List ℕ) Fault)
     → i < count → Fails e (item low bytes) → with_front front (many_at item next low (count - i) bytes) ≡ total → Fails e total
 unfolding many_at
-ends item next stops.NoMemory front count i low bytes total lt h so_far = tt
-ends item next (stops.At left why) front count i low bytes total lt h so_far =
+ends item next read_errs.NoMemory front count i low bytes total lt h so_far = tt
+ends item next (read_errs.At left why) front count i low bytes total lt h so_far =
     let k : count - i ≡ suc (count - (i + 1)) = omega arith in
     let one : with_front front (many_at item next low (count - i) bytes) ≡ Err (record { left = left; why = why }) = rw (k, h) refl in
     sym so_far ∙ one

@@ -7,7 +7,7 @@ use Rattle.fb_base.specs.declared.ending.ImageWhy.TheVariants.{Extra}
 use Rattle.fb_image.specs.declared.fault.ImageErr.{ImageErr}
 use Rattle.fb_image.specs.declared.fault.ImageErr.TheVariants as errors
 use Rattle.fb_image.specs.declared.image.ImageParts.{ImageParts}
-use Rattle.fb_image.specs.Answers.{Place, placed, image_of, Reads}
+use Rattle.fb_image.specs.Answers.{FaultAt, placed, image_of, Reads}
 use Rattle.fb_image.specs.Format.{IsImage}
 use Rattle.fb_image.specs.Reading.{Fault, broken, parts_of}
 use Rattle.fb_image.specs.Spelling.{AreBytes, spelling}
@@ -26,7 +26,7 @@ parts_are p image = ap parts_of (sym (append-nil (spelling p))) ∙ parts_again 
 pub again : (p : ImageParts) → IsImage p → image_of (spelling p) ≡ Ok p
 again p image = ap (placed (length (spelling p))) (parts_are p image)
 
-same_ok : (p q : ImageParts) (r : Result ImageParts Place) → r ≡ Ok p → r ≡ Ok q → p ≡ q
+same_ok : (p q : ImageParts) (r : Result ImageParts FaultAt) → r ≡ Ok p → r ≡ Ok q → p ≡ q
 same_ok p q r e f = cc
 
 pub one : (p q : ImageParts) → IsImage p → IsImage q → spelling p ≡ spelling q → p ≡ q
@@ -39,7 +39,7 @@ not_none n =
       | inr is ↦ is
     ]
 
-abbrev too_much : ℕ → Result ImageParts Place
+abbrev too_much : ℕ → Result ImageParts FaultAt
 too_much n = Err (record { at = n; why = Extra })
 
 pub extra : (p : ImageParts) (b : ℕ) (more : List ℕ) → IsImage p → image_of (spelling p ++ b ∷ more) ≡ Err (record { at = length (spelling p); why = Extra })
@@ -54,7 +54,7 @@ pub is_found : (bytes : List ℕ) (r : Result ImageParts ImageErr) → AreBytes 
 is_found bytes (Ok p) fits read = found bytes p fits read
 is_found bytes (Err e) fits read = tt
 
-reads_only : (r : Result ImageParts ImageErr) (p : ImageParts) (read : Result ImageParts Place) → read ≡ Ok p → Reads r read → MatchResult r (λ q. q ≡ p) (λ e. e ≡ errors.NoMemory)
+reads_only : (r : Result ImageParts ImageErr) (p : ImageParts) (read : Result ImageParts FaultAt) → read ≡ Ok p → Reads r read → MatchResult r (λ q. q ≡ p) (λ e. e ≡ errors.NoMemory)
 reads_only (Ok q) p read is e = same_ok q p read e is
 reads_only (Err errors.NoMemory) p read is e = refl
 reads_only (Err (errors.At at why)) p read is e = absurd cc

@@ -1,7 +1,7 @@
 //! Why bytes are no image.
 
 ghost use Rattle.std.specs.Prelude.{◌≡◌};
-ghost use Rattle.fb_image.specs.declared.fault.Stop.TheVariants.{NoMemory as WantOfMemory};
+ghost use Rattle.fb_image.specs.declared.fault.ReadErr.TheVariants.{NoMemory as WantOfMemory};
 
 use fb_base::ImageWhy;
 use std::alloc::{AllocError, AllocFailed};
@@ -17,31 +17,31 @@ pub enum ImageErr {
 
 /// What stops a reader: want of memory, or a fault and how many bytes there are from its first one to the end.
 #[derive(Debug, Drop)]
-pub enum Stop {
+pub enum ReadErr {
     NoMemory,
     At { left: usize, why: ImageWhy },
 }
 
-impl From<AllocError> for Stop {
+impl From<AllocError> for ReadErr {
     ghost from_gives = { λ _ e. e ≡ WantOfMemory };
 
-    fn from(_: AllocError) -> Stop {
-        Stop::NoMemory
+    fn from(_: AllocError) -> ReadErr {
+        ReadErr::NoMemory
     }
 }
 
-impl<T: Drop> From<AllocFailed<T>> for Stop {
+impl<T: Drop> From<AllocFailed<T>> for ReadErr {
     ghost from_gives = { λ _ e. e ≡ WantOfMemory };
 
-    fn from(_: AllocFailed<T>) -> Stop {
-        Stop::NoMemory
+    fn from(_: AllocFailed<T>) -> ReadErr {
+        ReadErr::NoMemory
     }
 }
 
-impl From<fb_base::NoMemory> for Stop {
+impl From<fb_base::NoMemory> for ReadErr {
     ghost from_gives = { λ _ e. e ≡ WantOfMemory };
 
-    fn from(_: fb_base::NoMemory) -> Stop {
-        Stop::NoMemory
+    fn from(_: fb_base::NoMemory) -> ReadErr {
+        ReadErr::NoMemory
     }
 }

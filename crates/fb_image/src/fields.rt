@@ -4,9 +4,9 @@ ghost use Rattle.std.specs.Prelude.{◌≡◌, ◌<◌, ◌≤◌, ◌==◌, ℕ
 ghost use Rattle.fb_image.specs.Answers.{Gives};
 ghost use Rattle.fb_image.specs.Reading.{word_at, word_such, entry_at, cell_at, fits_size, fits_align, fits_index, literal_at, line_at, some_at, counts_at, header_at};
 ghost use Rattle.fb_base.specs.declared.ending.ImageWhy.TheVariants.{ShapeRule, LineRule};
-ghost use Rattle.fb_image.specs.declared.fault.Stop.TheVariants.{At};
+ghost use Rattle.fb_image.specs.declared.fault.ReadErr.TheVariants.{At};
 
-use crate::fault::Stop;
+use crate::fault::ReadErr;
 use fb_base::{ImageWhy, LineAt};
 
 /// Shapes and literals have at most so many bytes.
@@ -29,10 +29,10 @@ pub struct Counts {
 }
 
 /// The fault of a field that breaks a rule; the bytes begin at its first one.
-fn broken(why: ImageWhy, bytes: &[u8]) -> Stop
+fn broken(why: ImageWhy, bytes: &[u8]) -> ReadErr
     ensures { result ≡ At (length bytes.now) why }
 {
-    Stop::At {
+    ReadErr::At {
         left: bytes.len(),
         why,
     }
@@ -40,11 +40,11 @@ fn broken(why: ImageWhy, bytes: &[u8]) -> Stop
 
 /// A number.
 #[tactic(auto, unfolding(crate::specs::Reading::word_at))]
-pub fn word(bytes: &[u8]) -> Result<(u32, &[u8]), Stop>
+pub fn word(bytes: &[u8]) -> Result<(u32, &[u8]), ReadErr>
     ensures { Gives (λ x. (x.0, x.1.now)) result (word_at bytes.now) }
 {
     if bytes.len() < 4 {
-        return Err(Stop::At {
+        return Err(ReadErr::At {
             left: 0,
             why: ImageWhy::Short,
         });
@@ -55,7 +55,7 @@ pub fn word(bytes: &[u8]) -> Result<(u32, &[u8]), Stop>
 }
 
 /// A procedure's first word, which is one of so many.
-pub fn entry(words: u32, bytes: &[u8]) -> Result<(u32, &[u8]), Stop>
+pub fn entry(words: u32, bytes: &[u8]) -> Result<(u32, &[u8]), ReadErr>
     ensures { (low : ℕ) → Gives (λ x. (x.0, x.1.now)) result (entry_at words low bytes.now) }
 {
     let (index, rest) = word(bytes)?;
@@ -66,7 +66,7 @@ pub fn entry(words: u32, bytes: &[u8]) -> Result<(u32, &[u8]), Stop>
 }
 
 /// The size of a shape of at least so many bytes.
-pub fn size(least: u32, bytes: &[u8]) -> Result<(u32, &[u8]), Stop>
+pub fn size(least: u32, bytes: &[u8]) -> Result<(u32, &[u8]), ReadErr>
     ensures { Gives (λ x. (x.0, x.1.now)) result (word_such (fits_size least) ShapeRule bytes.now) }
 {
     let (size, rest) = word(bytes)?;
@@ -77,7 +77,7 @@ pub fn size(least: u32, bytes: &[u8]) -> Result<(u32, &[u8]), Stop>
 }
 
 /// An alignment, which divides the size.
-pub fn align(size: u32, bytes: &[u8]) -> Result<(u32, &[u8]), Stop>
+pub fn align(size: u32, bytes: &[u8]) -> Result<(u32, &[u8]), ReadErr>
     ensures { Gives (λ x. (x.0, x.1.now)) result (word_such (fits_align size) ShapeRule bytes.now) }
 {
     let (align, rest) = word(bytes)?;
@@ -88,7 +88,7 @@ pub fn align(size: u32, bytes: &[u8]) -> Result<(u32, &[u8]), Stop>
 }
 
 /// The offset of a string cell, which ends within the size and doesn't begin below a number.
-pub fn cell(size: u32, low: u64, bytes: &[u8]) -> Result<(u64, &[u8]), Stop>
+pub fn cell(size: u32, low: u64, bytes: &[u8]) -> Result<(u64, &[u8]), ReadErr>
     ensures read { Gives (λ x. (x.0, x.1.now)) result (cell_at size low bytes.now) }
     ensures above { IfOk result (λ x. low ≤ x.0) }
 {
@@ -102,7 +102,7 @@ pub fn cell(size: u32, low: u64, bytes: &[u8]) -> Result<(u64, &[u8]), Stop>
 
 /// The bytes of a literal.
 #[tactic(auto, unfolding(crate::specs::Reading::literal_at))]
-pub fn literal(bytes: &[u8]) -> Result<(&[u8], &[u8]), Stop>
+pub fn literal(bytes: &[u8]) -> Result<(&[u8], &[u8]), ReadErr>
     ensures read { (low : ℕ) → Gives (λ x. (x.0.now, x.1.now)) result (literal_at low bytes.now) }
     ensures short { IfOk result (λ x. length x.0.now ≤ 16777216) }
 {
@@ -112,7 +112,7 @@ pub fn literal(bytes: &[u8]) -> Result<(&[u8], &[u8]), Stop>
     }
     let len = len as usize;
     if rest.len() < len {
-        return Err(Stop::At {
+        return Err(ReadErr::At {
             left: 0,
             why: ImageWhy::Short,
         });
@@ -122,7 +122,7 @@ pub fn literal(bytes: &[u8]) -> Result<(&[u8], &[u8]), Stop>
 }
 
 /// The index of a line among so many code words: 0 where low is 0, as for the first, and else at least low.
-fn index(words: u32, low: u64, bytes: &[u8]) -> Result<(u32, &[u8]), Stop>
+fn index(words: u32, low: u64, bytes: &[u8]) -> Result<(u32, &[u8]), ReadErr>
     ensures { Gives (λ x. (x.0, x.1.now)) result (word_such (fits_index words low) LineRule bytes.now) }
 {
     let (index, rest) = word(bytes)?;
@@ -133,7 +133,7 @@ fn index(words: u32, low: u64, bytes: &[u8]) -> Result<(u32, &[u8]), Stop>
 }
 
 /// The number of a line, which are counted from 1.
-fn number(bytes: &[u8]) -> Result<(u32, &[u8]), Stop>
+fn number(bytes: &[u8]) -> Result<(u32, &[u8]), ReadErr>
     ensures { Gives (λ x. (x.0, x.1.now)) result (word_such (nat_lt 0) LineRule bytes.now) }
 {
     let (number, rest) = word(bytes)?;
@@ -145,7 +145,7 @@ fn number(bytes: &[u8]) -> Result<(u32, &[u8]), Stop>
 
 /// A line, with its index as above.
 #[tactic(auto, unfolding(crate::specs::Reading::line_at))]
-pub fn line(words: u32, low: u64, bytes: &[u8]) -> Result<(LineAt, &[u8]), Stop>
+pub fn line(words: u32, low: u64, bytes: &[u8]) -> Result<(LineAt, &[u8]), ReadErr>
     ensures read { Gives (λ x. (x.0, x.1.now)) result (line_at words low bytes.now) }
     ensures within { IfOk result (λ x. x.0.index < words) }
 {
@@ -155,7 +155,7 @@ pub fn line(words: u32, low: u64, bytes: &[u8]) -> Result<(LineAt, &[u8]), Stop>
 }
 
 /// A count of at least one.
-fn some(bytes: &[u8]) -> Result<(u32, &[u8]), Stop>
+fn some(bytes: &[u8]) -> Result<(u32, &[u8]), ReadErr>
     ensures { Gives (λ x. (x.0, x.1.now)) result (some_at bytes.now) }
 {
     let (count, rest) = word(bytes)?;
@@ -166,7 +166,7 @@ fn some(bytes: &[u8]) -> Result<(u32, &[u8]), Stop>
 }
 
 #[tactic(auto, unfolding(crate::specs::Reading::counts_at))]
-fn all_counts(bytes: &[u8]) -> Result<(Counts, &[u8]), Stop>
+fn all_counts(bytes: &[u8]) -> Result<(Counts, &[u8]), ReadErr>
     ensures { Gives (λ x. (x.0, x.1.now)) result (counts_at bytes.now) }
 {
     let (code, rest) = some(bytes)?;
@@ -185,7 +185,7 @@ fn all_counts(bytes: &[u8]) -> Result<(Counts, &[u8]), Stop>
 }
 
 /// A word that has to be this number.
-fn constant(expected: u32, why: ImageWhy, bytes: &[u8]) -> Result<(u32, &[u8]), Stop>
+fn constant(expected: u32, why: ImageWhy, bytes: &[u8]) -> Result<(u32, &[u8]), ReadErr>
     ensures { Gives (λ x. (x.0, x.1.now)) result (word_such (λ n. n == expected) why bytes.now) }
 {
     let (number, rest) = word(bytes)?;
@@ -197,7 +197,7 @@ fn constant(expected: u32, why: ImageWhy, bytes: &[u8]) -> Result<(u32, &[u8]), 
 
 /// The magic bytes, the version and the counts.
 #[tactic(auto, unfolding(crate::specs::Reading::header_at))]
-pub fn header(bytes: &[u8]) -> Result<(Counts, &[u8]), Stop>
+pub fn header(bytes: &[u8]) -> Result<(Counts, &[u8]), ReadErr>
     ensures { Gives (λ x. (x.0, x.1.now)) result (header_at bytes.now) }
 {
     let (_, rest) = constant(MAGIC, ImageWhy::Magic, bytes)?;

@@ -17,6 +17,3 @@ pub use laws::image_laws;
 pub use literals::Literals;
 pub use reading::read;
 pub use writing::write;
-
-#[cfg(test)]
-mod tests;

@@ -5,7 +5,7 @@ ghost use Rattle.fb_image.specs.Answers.{Gives};
 ghost use Rattle.fb_image.specs.Format.{after_cell, after_shape, after_line};
 ghost use Rattle.fb_image.specs.Reading.{many_at, no_more, code_at, entry_at, cell_at, shape_at, literal_at, line_at};
 
-use crate::fault::Stop;
+use crate::fault::ReadErr;
 use crate::fields::{CELL, align, cell, entry, line, literal, size, word};
 use crate::image::{CodeWords, Entries, Shapes};
 use crate::literals::Literals;
@@ -13,7 +13,7 @@ use fb_base::{Cells, Lines, Sequence, Shape};
 use std::alloc::Global;
 
 /// So many code words.
-pub fn code_of(alloc: Global, count: u32, bytes: &[u8]) -> Result<(CodeWords, &[u8]), Stop>
+pub fn code_of(alloc: Global, count: u32, bytes: &[u8]) -> Result<(CodeWords, &[u8]), ReadErr>
     ensures { Gives (λ x. (x.0, x.1.now)) result (many_at code_at no_more 0 count bytes.now) }
 {
     let mut code = Sequence::new(alloc);
@@ -32,7 +32,7 @@ pub fn entries_of(
     words: u32,
     count: u32,
     bytes: &[u8],
-) -> Result<(Entries, &[u8]), Stop>
+) -> Result<(Entries, &[u8]), ReadErr>
     ensures { Gives (λ x. (x.0, x.1.now)) result (many_at (entry_at words) no_more 0 count bytes.now) }
 {
     let mut entries = Sequence::new(alloc);
@@ -45,7 +45,7 @@ pub fn entries_of(
     Ok((entries, rest))
 }
 
-fn cells_of(alloc: Global, size: u32, count: u32, bytes: &[u8]) -> Result<(Cells, &[u8]), Stop>
+fn cells_of(alloc: Global, size: u32, count: u32, bytes: &[u8]) -> Result<(Cells, &[u8]), ReadErr>
     ensures { Gives (λ x. (x.0, x.1.now)) result (many_at (cell_at size) after_cell 0 count bytes.now) }
 {
     let mut cells = Cells::new(alloc);
@@ -62,7 +62,7 @@ fn cells_of(alloc: Global, size: u32, count: u32, bytes: &[u8]) -> Result<(Cells
 
 /// A shape of at least so many bytes.
 #[tactic(auto, unfolding(crate::specs::Reading::shape_at))]
-fn shape_of(alloc: Global, least: u32, bytes: &[u8]) -> Result<(Shape, &[u8]), Stop>
+fn shape_of(alloc: Global, least: u32, bytes: &[u8]) -> Result<(Shape, &[u8]), ReadErr>
     ensures { Gives (λ x. (x.0, x.1.now)) result (shape_at least bytes.now) }
 {
     let (size, rest) = size(least, bytes)?;
@@ -78,7 +78,7 @@ fn shape_of(alloc: Global, least: u32, bytes: &[u8]) -> Result<(Shape, &[u8]), S
 }
 
 /// So many shapes, of which the first may have no bytes.
-pub fn shapes_of(alloc: Global, count: u32, bytes: &[u8]) -> Result<(Shapes, &[u8]), Stop>
+pub fn shapes_of(alloc: Global, count: u32, bytes: &[u8]) -> Result<(Shapes, &[u8]), ReadErr>
     ensures { Gives (λ x. (x.0, x.1.now)) result (many_at shape_at after_shape 0 count bytes.now) }
 {
     let mut shapes = Sequence::new(alloc);
@@ -94,7 +94,7 @@ pub fn shapes_of(alloc: Global, count: u32, bytes: &[u8]) -> Result<(Shapes, &[u
 }
 
 /// So many literals.
-pub fn literals_of(alloc: Global, count: u32, bytes: &[u8]) -> Result<(Literals, &[u8]), Stop>
+pub fn literals_of(alloc: Global, count: u32, bytes: &[u8]) -> Result<(Literals, &[u8]), ReadErr>
     ensures { Gives (λ x. (x.0, x.1.now)) result (many_at literal_at no_more 0 count bytes.now) }
 {
     // A literal takes at least the four bytes of its length, so that there are no more than this.
@@ -110,7 +110,12 @@ pub fn literals_of(alloc: Global, count: u32, bytes: &[u8]) -> Result<(Literals,
 }
 
 /// So many lines, among so many code words.
-pub fn lines_of(alloc: Global, words: u32, count: u32, bytes: &[u8]) -> Result<(Lines, &[u8]), Stop>
+pub fn lines_of(
+    alloc: Global,
+    words: u32,
+    count: u32,
+    bytes: &[u8],
+) -> Result<(Lines, &[u8]), ReadErr>
     ensures { Gives (λ x. (x.0, x.1.now)) result (many_at (line_at words) after_line 0 count bytes.now) }
 {
     let mut lines = Sequence::new(alloc);

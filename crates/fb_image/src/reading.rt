@@ -8,7 +8,7 @@ ghost use Rattle.fb_image.specs.Format.{IsImage};
 ghost use Rattle.fb_image.specs.Reading.{lists_at, parts_of};
 ghost use Rattle.fb_image.specs.Spelling.{spelling};
 
-use crate::fault::{ImageErr, Stop};
+use crate::fault::{ImageErr, ReadErr};
 use crate::fields::{Counts, header};
 use crate::image::{Image, ImageParts, build};
 use crate::lists::{code_of, entries_of, lines_of, literals_of, shapes_of};
@@ -16,7 +16,7 @@ use fb_base::ImageWhy;
 use std::alloc::Global;
 
 #[tactic(auto, unfolding(crate::specs::Reading::lists_at))]
-fn lists_of(alloc: Global, counts: Counts, bytes: &[u8]) -> Result<(ImageParts, &[u8]), Stop>
+fn lists_of(alloc: Global, counts: Counts, bytes: &[u8]) -> Result<(ImageParts, &[u8]), ReadErr>
     ensures { Gives (λ x. (x.0, x.1.now)) result (lists_at counts bytes.now) }
 {
     let (code, rest) = code_of(alloc, counts.code, bytes)?;
@@ -36,13 +36,13 @@ fn lists_of(alloc: Global, counts: Counts, bytes: &[u8]) -> Result<(ImageParts, 
 
 /// The parts of an image that are all of the bytes.
 #[tactic(auto, unfolding(crate::specs::Reading::parts_of))]
-fn parts(alloc: Global, bytes: &[u8]) -> Result<ImageParts, Stop>
+fn parts(alloc: Global, bytes: &[u8]) -> Result<ImageParts, ReadErr>
     ensures { Gives (λ parts. parts) result (parts_of bytes.now) }
 {
     let (counts, rest) = header(bytes)?;
     let (parts, rest) = lists_of(alloc, counts, rest)?;
     if !rest.is_empty() {
-        return Err(Stop::At {
+        return Err(ReadErr::At {
             left: rest.len(),
             why: ImageWhy::Extra,
         });
@@ -56,8 +56,8 @@ fn image_in(alloc: Global, bytes: &[u8]) -> Result<Image, ImageErr>
 {
     match parts(alloc, bytes) {
         Ok(parts) => Ok(build(parts)),
-        Err(Stop::NoMemory) => Err(ImageErr::NoMemory),
-        Err(Stop::At { left, why }) => Err(ImageErr::At {
+        Err(ReadErr::NoMemory) => Err(ImageErr::NoMemory),
+        Err(ReadErr::At { left, why }) => Err(ImageErr::At {
             at: bytes.len().saturating_sub(left) as u32,
             why,
         }),

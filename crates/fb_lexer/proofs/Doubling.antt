@@ -3,7 +3,7 @@ use Rattle.std.proofs.Common.{◌≡◌, ◌≢◌, ◌==◌, ℕ, suc, ◌≤�
 use Rattle.std.specs.Prelude.{slice_index, ⊤}
 use Rattle.std.proofs.lemmas.Bool.Decides.{nat_tests}
 use Rattle.fb_lexer.specs.Letters.{is_in_line}
-use Rattle.fb_lexer.specs.Pieces.{first, with_front, rest_of_literal}
+use Rattle.fb_lexer.specs.Pieces.{front_byte, with_front, rest_of_literal}
 use Rattle.fb_lexer.specs.Grammar.{Each, doubled}
 
 pub that_byte : (b k : ℕ) → (b == k) ≡ true → b ≡ k
@@ -65,8 +65,8 @@ right_byte b bytes (Some r) q l h = subst (λ n. IsRest (b ∷ bytes) (b ∷ r.0
   closed = h.closed;
 })
 
-ends_here : (more : List ℕ) → (first more == 34) ≡ false → Right (34 ∷ more) (Some ([], 1))
-ends_here more h = record { front = refl; line = tt; within = omega arith; closed = not_that (first more) 34 h }
+ends_here : (more : List ℕ) → (front_byte more == 34) ≡ false → Right (34 ∷ more) (Some ([], 1))
+ends_here more h = record { front = refl; line = tt; within = omega arith; closed = not_that (front_byte more) 34 h }
 
 -- what a quote gives that this byte follows
 abbrev if_quote : ℕ → List ℕ → Option (List ℕ × ℕ)
@@ -87,7 +87,7 @@ rest_right (b ∷ c ∷ bytes) =
 -- ---- a literal's rest is read, at least so far
 
 abbrev pub Reached : Option (List ℕ × ℕ) → List ℕ → List ℕ → Type 0
-Reached None text more = first more ≡ 34
+Reached None text more = front_byte more ≡ 34
 Reached (Some r) text more = suc (length (doubled text)) ≤ r.1
 
 abbrev Reaches : List ℕ → Option (List ℕ × ℕ) → Type 0
@@ -102,7 +102,7 @@ reached_byte b None text more q h = h
 reached_byte b (Some r) text more q h = omega (arith, h, ap length (doubled_other b text q))
 
 -- at the quote that ends it
-reached_end : (t : Bool) (c : ℕ) (r : Option (List ℕ × ℕ)) (more : List ℕ) → (c == 34) ≡ t → first more ≡ c → Reached (cond t (with_front (34 ∷ []) 2 r) (Some ([], 1))) [] more
+reached_end : (t : Bool) (c : ℕ) (r : Option (List ℕ × ℕ)) (more : List ℕ) → (c == 34) ≡ t → front_byte more ≡ c → Reached (cond t (with_front (34 ∷ []) 2 r) (Some ([], 1))) [] more
 reached_end true c None more is next = next ∙ that_byte c 34 is
 reached_end true c (Some r) more is next = omega arith
 reached_end false c r more is next = omega arith
@@ -139,5 +139,5 @@ rest_reaches (b ∷ []) (x ∷ text) more e each = absurd (omega (arith, ap leng
 rest_reaches (b ∷ c ∷ bytes) [] more e each =
     let b_is : b ≡ 34 = cc in
     let rest_is : c ∷ bytes ≡ more = cc in
-    rw b_is (reached_end (c == 34) c (rest_of_literal bytes) more refl (ap first (sym rest_is)))
+    rw b_is (reached_end (c == 34) c (rest_of_literal bytes) more refl (ap front_byte (sym rest_is)))
 rest_reaches (b ∷ c ∷ bytes) (x ∷ text) more e each = reads_more b c bytes (rest_reaches bytes) (rest_reaches (c ∷ bytes)) x text more (x == 34) refl e each.0 each.1

@@ -21,7 +21,7 @@ use Rattle.fb_lexer.specs.declared.piece.Piece.TheVariants as pieces
 use Rattle.fb_lexer.specs.Letters.{is_blank, begins_name, is_in_name, is_in_line, lower, is_digit}
 use Rattle.fb_lexer.specs.Spelling.{spelling}
 use Rattle.fb_lexer.specs.Words.{word_of}
-use Rattle.fb_lexer.specs.Pieces.{first, line_length, with_front, rest_of_comment, comment_of, rest_of_literal, literal_of, value_of, number_of, number, mark, with_equal, mark_of, base_of, ampersand, word_or_name, named, name, begun}
+use Rattle.fb_lexer.specs.Pieces.{front_byte, line_length, with_front, rest_of_comment, comment_of, rest_of_literal, literal_of, value_of, number_of, number, mark, with_equal, mark_of, base_of, ampersand, word_or_name, named, name, begun}
 use Rattle.fb_lexer.specs.Grammar.{Each, IsName, AreDigits, IsNumber, doubled, mark_bytes, Spells, IsLongest, Closes, IsEnclosed, IsComment, Fits, IsOpenText, IsOpenComment, IsBadByte, IsFront}
 use Rattle.fb_lexer.proofs.Runs.{run_more, run_stops, each_front, longest_run, each_weaker, line_past}
 use Rattle.fb_lexer.proofs.Doubling.{that_byte, not_end, doubled_other, Right, rest_right}
@@ -38,7 +38,7 @@ same_length bytes n m kind other h k = omega (arith, h.longest m other k.within 
 -- a mark, read again from its bytes
 abbrev read_mark : List ℕ → Piece
 read_mark [] = pieces.Blank
-read_mark (b ∷ bytes) = cond (b == 38) (with_equal (first bytes) marks.AmpersandEqual marks.Ampersand) (mark_of b (first bytes))
+read_mark (b ∷ bytes) = cond (b == 38) (with_equal (front_byte bytes) marks.AmpersandEqual marks.Ampersand) (mark_of b (front_byte bytes))
 
 read_again : (which : Mark) → read_mark (mark_bytes which) ≡ mark which (length (mark_bytes which))
 read_again marks.Plus = refl
@@ -211,16 +211,16 @@ decimal_read b rest n value h n_is value_is =
 based_digits : (base : ℕ) (digits : List ℕ) → 1 ≤ prefix_len (is_digit base) digits → AreDigits base (take (prefix_len (is_digit base) digits) digits)
 based_digits base digits some = (each_front (is_digit base) digits, omega (arith, length-prefix_len (is_digit base) digits, some))
 
-first_passes : (base : ℕ) (digits : List ℕ) (k : ℕ) → AreDigits base (take k digits) → is_digit base (first digits) ≡ true
+first_passes : (base : ℕ) (digits : List ℕ) (k : ℕ) → AreDigits base (take k digits) → is_digit base (front_byte digits) ≡ true
 first_passes base digits zero each = absurd (omega (arith, each.1))
 first_passes base [] (suc k) each = absurd (omega (arith, each.1))
 first_passes base (d ∷ digits) (suc k) each = each.0.0
 
-second_is : (l : ℕ) (digits : List ℕ) → slice_index (l ∷ digits) 1 ≡ first digits
+second_is : (l : ℕ) (digits : List ℕ) → slice_index (l ∷ digits) 1 ≡ front_byte digits
 second_is l [] = refl
 second_is l (d ∷ digits) = refl
 
-ampersand_read : (l : ℕ) (digits : List ℕ) → is_digit (base_of (lower l)) (first digits) ≡ true → ampersand (l ∷ digits) ≡ number (base_of (lower l)) 2 digits
+ampersand_read : (l : ℕ) (digits : List ℕ) → is_digit (base_of (lower l)) (front_byte digits) ≡ true → ampersand (l ∷ digits) ≡ number (base_of (lower l)) 2 digits
 ampersand_read l digits h =
     let e : is_digit (base_of (lower l)) (slice_index (l ∷ digits) 1) ≡ true = ap (λ x. is_digit (base_of (lower l)) x) (second_is l digits) ∙ h in
     rw e refl
@@ -276,7 +276,7 @@ reads_front b text more false q line read =
     rw (doubled_other b text q) (next_byte b (doubled text ++ 34 ∷ more) (not_end b line) q ∙ ap (with_front (b ∷ []) 1) read ∙ ap (λ n. Some (b ∷ text, n)) (omega arith))
 
 -- a literal's rest is read to its end, where no quote follows
-reads_whole : (text more : List ℕ) → Each is_in_line text → first more ≢ 34 → rest_of_literal (doubled text ++ 34 ∷ more) ≡ Some (text, suc (length (doubled text)))
+reads_whole : (text more : List ℕ) → Each is_in_line text → front_byte more ≢ 34 → rest_of_literal (doubled text ++ 34 ∷ more) ≡ Some (text, suc (length (doubled text)))
 reads_whole [] [] each h = refl
 reads_whole [] (c ∷ more) each h = let e : (c == 34) ≡ false = other_byte c 34 h in rw e refl
 reads_whole (b ∷ text) more each h = reads_front b text more (b == 34) refl each.0 (reads_whole text more each.1 h)
@@ -435,11 +435,11 @@ bad_only bytes (pieces.Fault faults.OpenComment) h q = absurd (h.no_comment q)
 bad_only bytes (pieces.Fault faults.BigNumber) h q = absurd (h.no_number q)
 bad_only bytes (pieces.Fault other) h q = absurd q
 
-run_zero : (rest : List ℕ) → is_in_name (first rest) ≡ false → prefix_len is_in_name rest ≡ 0
+run_zero : (rest : List ℕ) → is_in_name (front_byte rest) ≡ false → prefix_len is_in_name rest ≡ 0
 run_zero [] h = refl
 run_zero (c ∷ rest) h = run_stops is_in_name c rest h
 
-after_first : (b : ℕ) (rest : List ℕ) → slice_index (b ∷ rest) 1 ≡ first rest
+after_first : (b : ℕ) (rest : List ℕ) → slice_index (b ∷ rest) 1 ≡ front_byte rest
 after_first b [] = refl
 after_first b (c ∷ rest) = refl
 

@@ -5,6 +5,7 @@ pub mod Enclosed
 pub mod Exact
 pub mod Groups
 pub mod Moves
+pub mod Named
 pub mod Numbers
 pub mod Rows
 pub mod Runs

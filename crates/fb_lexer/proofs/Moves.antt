@@ -19,7 +19,7 @@ use Rattle.fb_lexer.specs.Letters.{is_blank, begins_name, is_in_name, lower, is_
 use Rattle.fb_lexer.specs.Lengths.{length_of}
 use Rattle.fb_lexer.specs.Rows.{IsSound}
 use Rattle.fb_lexer.specs.Words.{word_of}
-use Rattle.fb_lexer.specs.Pieces.{first, closes, opens, rest_of_comment, comment_of, rest_of_literal, literal_of, number_of, with_equal, less, minus, single, mark_of, base_of, ampersand, word_or_name, named, name, begun, placed, piece_of}
+use Rattle.fb_lexer.specs.Pieces.{front_byte, closes, opens, rest_of_comment, comment_of, rest_of_literal, literal_of, number_of, with_equal, less, minus, single, mark_of, base_of, ampersand, word_or_name, named, name, begun, placed, piece_of}
 
 abbrev pub Moves : Piece → Type 0
 Moves piece = IsSound piece → 1 ≤ length_of piece
@@ -91,11 +91,11 @@ moves_named : (text : List ℕ) (n : ℕ) (rest : List ℕ) → 1 ≤ n → Move
 moves_named text n rest h = either (bytes_eq text (codes "rem")) _ _ (λ _. omega arith) (moves_word (word_of text) text n h)
 
 moves_name : (n : ℕ) (bytes : List ℕ) → 1 ≤ n → Moves (name n bytes)
-moves_name n bytes h = either ((n == 1) && (first bytes == 95)) _ _ (λ _. omega arith) (moves_named (map lower (take n bytes)) n (drop n bytes) h)
+moves_name n bytes h = either ((n == 1) && (front_byte bytes == 95)) _ _ (λ _. omega arith) (moves_named (map lower (take n bytes)) n (drop n bytes) h)
 
 moves_ampersand : (bytes : List ℕ) → Moves (ampersand bytes)
 moves_ampersand bytes =
-    either (is_digit (base_of (lower (first bytes))) (slice_index bytes 1)) _ _ (moves_number _ _ (omega arith)) (moves_equal (first bytes) marks.AmpersandEqual marks.Ampersand)
+    either (is_digit (base_of (lower (front_byte bytes))) (slice_index bytes 1)) _ _ (moves_number _ _ (omega arith)) (moves_equal (front_byte bytes) marks.AmpersandEqual marks.Ampersand)
 
 digit_is : (b : ℕ) → is_ascii_digit b ≡ true → is_digit 10 b ≡ true
 digit_is b h = grind (arith, nat_tests)
@@ -110,11 +110,11 @@ moves_begun : (b : ℕ) (bytes : List ℕ) → Moves (begun b bytes)
 unfolding begun
 moves_begun b bytes =
     either (is_blank b) _ _ (λ _. omega arith) (either (b == 10) _ _ (λ _. omega arith) (either (b == 39) _ _ (λ _. omega arith)
-    (either (b == 47) _ _ (either (first bytes == 39) _ _ (moves_comment _ (λ m h. let grows = comment_grows 1 2 (drop 1 bytes) m h in omega (arith, grows))) (λ sound. absurd sound))
+    (either (b == 47) _ _ (either (front_byte bytes == 39) _ _ (moves_comment _ (λ m h. let grows = comment_grows 1 2 (drop 1 bytes) m h in omega (arith, grows))) (λ sound. absurd sound))
     (either (b == 34) _ _ (moves_literal (rest_of_literal bytes))
     (choose (is_ascii_digit b) _ _ (λ h. moves_number _ _ (omega (arith, some_digits b bytes h)))
     (λ _. choose (begins_name b) _ _ (λ h. moves_name _ (b ∷ bytes) (some_letters b bytes h))
-    (λ _. either (b == 38) _ _ (moves_ampersand bytes) (moves_mark b (first bytes)))))))))
+    (λ _. either (b == 38) _ _ (moves_ampersand bytes) (moves_mark b (front_byte bytes)))))))))
 
 no_fault_sound : (kind : FaultKind) → IsSound (placed before.Join (Fault kind)) → ⊥
 no_fault_sound faults.OpenComment sound = sound

@@ -20,7 +20,7 @@ use Rattle.fb_lexer.specs.declared.piece.Piece.TheVariants as pieces
 use Rattle.fb_lexer.specs.Letters.{is_blank, begins_name, is_in_name, is_in_line, lower, is_digit}
 use Rattle.fb_lexer.specs.Spelling.{spelling}
 use Rattle.fb_lexer.specs.Words.{word_of}
-use Rattle.fb_lexer.specs.Pieces.{first, line_length, rest_of_comment, comment_of, slash, rest_of_literal, literal_of, value_of, number_of, number, mark, with_equal, less, minus, single, mark_of, base_of, ampersand, word_or_name, name, begun}
+use Rattle.fb_lexer.specs.Pieces.{front_byte, line_length, rest_of_comment, comment_of, slash, rest_of_literal, literal_of, value_of, number_of, number, mark, with_equal, less, minus, single, mark_of, base_of, ampersand, word_or_name, name, begun}
 use Rattle.fb_lexer.specs.Grammar.{Each, IsName, AreDigits, IsNumber, doubled, IsLiteral, mark_bytes, Spells, IsLongest, Closes, IsEnclosed, IsComment, Fits, IsPiece, IsBadByte, IsFront}
 use Rattle.fb_lexer.proofs.Runs.{run_more, each_front, longest_run, each_weaker, line_past}
 use Rattle.fb_lexer.proofs.Doubling.{that_byte, not_that, Right, rest_right, Reached, rest_reaches}
@@ -100,7 +100,7 @@ not_four (inr h) = absurd (omega (arith, h))
 pub append_last : (front : List ℕ) (b : ℕ) (back : List ℕ) → (front ++ b ∷ []) ++ back ≡ front ++ b ∷ back
 append_last front b back = append_assoc front (b ∷ []) back
 
-pub first_drop : (bytes : List ℕ) (k : ℕ) → slice_index bytes k ≡ first (drop k bytes)
+pub first_drop : (bytes : List ℕ) (k : ℕ) → slice_index bytes k ≡ front_byte (drop k bytes)
 first_drop [] zero = refl
 first_drop [] (suc k) = refl
 first_drop (b ∷ bytes) zero = refl
@@ -132,7 +132,7 @@ run_none_by : (test : ℕ → Bool) (b : ℕ) (bytes : List ℕ) (t : Bool) → 
 run_none_by test b bytes true is none = absurd (omega (arith, run_more test b bytes is, none))
 run_none_by test b bytes false is none = is
 
-run_none : (test : ℕ → Bool) (bytes : List ℕ) → prefix_len test bytes ≡ 0 → test 0 ≡ false → test (first bytes) ≡ false
+run_none : (test : ℕ → Bool) (bytes : List ℕ) → prefix_len test bytes ≡ 0 → test 0 ≡ false → test (front_byte bytes) ≡ false
 run_none test [] none end = end
 run_none test (b ∷ bytes) none end = run_none_by test b bytes (test b) refl none
 
@@ -288,9 +288,9 @@ NoNumber b rest = (k value : ℕ) → k ≤ length rest → IsNumber (b ∷ take
 
 -- nothing longer than n bytes is a mark that begins so
 abbrev IsFull : ℕ → List ℕ → ℕ → Type 0
-IsFull b rest n = ((n ≡ 1) × (is_pair b (first rest) ≡ false)) ⊎ (n ≡ 2)
+IsFull b rest n = ((n ≡ 1) × (is_pair b (front_byte rest) ≡ false)) ⊎ (n ≡ 2)
 
-pair_or_one : (b : ℕ) (rest : List ℕ) (k : ℕ) → k ≤ length rest → is_pair b (first rest) ≡ false → is_shape (b ∷ take k rest) ≡ true → suc k ≤ 1
+pair_or_one : (b : ℕ) (rest : List ℕ) (k : ℕ) → k ≤ length rest → is_pair b (front_byte rest) ≡ false → is_shape (b ∷ take k rest) ≡ true → suc k ≤ 1
 pair_or_one b rest zero within no_pair h = omega arith
 pair_or_one b [] (suc k) within no_pair h = absurd (omega arith)
 pair_or_one b (c ∷ rest) (suc k) within no_pair h = absurd (let e = sym (shape_pair b c (take k rest) h) ∙ no_pair in cc)
@@ -309,7 +309,7 @@ marks_longest b rest n g none_here full some k kinds.Colon within h = omega (ari
 marks_longest b rest n g none_here full some k kinds.LineEnd within h = absurd h
 
 -- a byte that is a token alone
-alone_sound : (b : ℕ) (rest : List ℕ) (kind : TokenKind) → Fits kind → 7 ≤ group b → NoNumber b rest → is_pair b (first rest) ≡ false → Spells (b ∷ []) kind → IsFront (b ∷ rest) (pieces.Token kind 1)
+alone_sound : (b : ℕ) (rest : List ℕ) (kind : TokenKind) → Fits kind → 7 ≤ group b → NoNumber b rest → is_pair b (front_byte rest) ≡ false → Spells (b ∷ []) kind → IsFront (b ∷ rest) (pieces.Token kind 1)
 alone_sound b rest kind fits g none_here no_pair h = (
   record {
     within = omega arith;
@@ -321,7 +321,7 @@ alone_sound b rest kind fits g none_here no_pair h = (
 )
 
 -- two bytes that are a mark
-pair_sound : (b c : ℕ) (rest : List ℕ) (which : Mark) → 7 ≤ group b → NoNumber b rest → first rest ≡ c → (c ≡ 0 → ⊥) → b ∷ c ∷ [] ≡ mark_bytes which → IsFront (b ∷ rest) (mark which 2)
+pair_sound : (b c : ℕ) (rest : List ℕ) (which : Mark) → 7 ≤ group b → NoNumber b rest → front_byte rest ≡ c → (c ≡ 0 → ⊥) → b ∷ c ∷ [] ≡ mark_bytes which → IsFront (b ∷ rest) (mark which 2)
 pair_sound b c [] which g none_here next some h = absurd (some (sym next))
 pair_sound b c (d ∷ rest) which g none_here next some h = (
   record {
@@ -334,26 +334,26 @@ pair_sound b c (d ∷ rest) which g none_here next some h = (
 )
 
 equal_sound : (b : ℕ) (rest : List ℕ) (longer shorter : Mark) → 7 ≤ group b → NoNumber b rest → b ∷ 61 ∷ [] ≡ mark_bytes longer → b ∷ [] ≡ mark_bytes shorter
-    → ((first rest == 61) ≡ false → is_pair b (first rest) ≡ false) → IsFront (b ∷ rest) (with_equal (first rest) longer shorter)
+    → ((front_byte rest == 61) ≡ false → is_pair b (front_byte rest) ≡ false) → IsFront (b ∷ rest) (with_equal (front_byte rest) longer shorter)
 equal_sound b rest longer shorter g none_here two one no_pair =
-    choose (b ∷ rest) (first rest == 61) _ _
-    (λ is. pair_sound b 61 rest longer g none_here (that_byte (first rest) 61 is) (λ e. absurd (omega (arith, e))) two)
+    choose (b ∷ rest) (front_byte rest == 61) _ _
+    (λ is. pair_sound b 61 rest longer g none_here (that_byte (front_byte rest) 61 is) (λ e. absurd (omega (arith, e))) two)
     (λ other. alone_sound b rest (kinds.Mark shorter) tt g none_here (no_pair other) one)
 
 -- no number begins with a byte of the last group
 last_no_number : (b : ℕ) (rest : List ℕ) → group b ≡ 8 → NoNumber b rest
 last_no_number b rest g k value within h = not_eight (group b) g (number_begins b (take k rest) value h)
 
-less_sound : (rest : List ℕ) → IsFront (60 ∷ rest) (less (first rest))
+less_sound : (rest : List ℕ) → IsFront (60 ∷ rest) (less (front_byte rest))
 less_sound rest =
-    choose (60 ∷ rest) (first rest == 62) _ _
-    (λ is. pair_sound 60 62 rest marks.NotEqual (omega arith) (last_no_number 60 rest refl) (that_byte (first rest) 62 is) (λ e. absurd (omega (arith, e))) refl)
+    choose (60 ∷ rest) (front_byte rest == 62) _ _
+    (λ is. pair_sound 60 62 rest marks.NotEqual (omega arith) (last_no_number 60 rest refl) (that_byte (front_byte rest) 62 is) (λ e. absurd (omega (arith, e))) refl)
     (λ other. equal_sound 60 rest marks.LessEqual marks.Less (omega arith) (last_no_number 60 rest refl) refl refl (λ no_equal. rw (no_equal, other) refl))
 
-minus_sound : (rest : List ℕ) → IsFront (45 ∷ rest) (minus (first rest))
+minus_sound : (rest : List ℕ) → IsFront (45 ∷ rest) (minus (front_byte rest))
 minus_sound rest =
-    choose (45 ∷ rest) (first rest == 62) _ _
-    (λ is. pair_sound 45 62 rest marks.Arrow (omega arith) (last_no_number 45 rest refl) (that_byte (first rest) 62 is) (λ e. absurd (omega (arith, e))) refl)
+    choose (45 ∷ rest) (front_byte rest == 62) _ _
+    (λ is. pair_sound 45 62 rest marks.Arrow (omega arith) (last_no_number 45 rest refl) (that_byte (front_byte rest) 62 is) (λ e. absurd (omega (arith, e))) refl)
     (λ other. equal_sound 45 rest marks.MinusEqual marks.Minus (omega arith) (last_no_number 45 rest refl) refl refl (λ no_equal. rw (no_equal, other) refl))
 
 -- where a byte is this one, it can be written so
@@ -361,7 +361,7 @@ at_byte : (b k : ℕ) (rest : List ℕ) (piece : Piece) → IsFront (k ∷ rest)
 at_byte b k rest piece h is = subst (λ x. IsFront (x ∷ rest) piece) (sym (that_byte b k is)) h
 
 one_mark : (k : ℕ) (which : Mark) → group k ≡ 8 → ((c : ℕ) → is_pair k c ≡ false) → k ∷ [] ≡ mark_bytes which → (rest : List ℕ) → IsFront (k ∷ rest) (mark which 1)
-one_mark k which g free h rest = alone_sound k rest (kinds.Mark which) tt (omega (arith, g)) (last_no_number k rest g) (free (first rest)) h
+one_mark k which g free h rest = alone_sound k rest (kinds.Mark which) tt (omega (arith, g)) (last_no_number k rest g) (free (front_byte rest)) h
 
 -- ---- a byte that begins nothing
 
@@ -371,7 +371,7 @@ no_value_by g (inl h) (inr k) = absurd (omega (arith, h, k))
 no_value_by g (inr h) (inl k) = absurd (omega (arith, h, k))
 no_value_by g (inr h) (inr k) = absurd (omega (arith, h, k))
 
-next_is : (b : ℕ) (rest : List ℕ) → slice_index (b ∷ rest) 1 ≡ 39 → first rest ≡ 39
+next_is : (b : ℕ) (rest : List ℕ) → slice_index (b ∷ rest) 1 ≡ 39 → front_byte rest ≡ 39
 next_is b [] h = h
 next_is b (c ∷ rest) h = h
 
@@ -380,7 +380,7 @@ pub record BeginsNothing (b : ℕ) (rest : List ℕ) : Type 0 where
   pub group : (group b ≡ 3) ⊎ (group b ≡ 8)
   pub no_mark : begins_mark b ≡ false
   pub no_colon : b ≢ 58
-  pub no_comment : b ≡ 47 → first rest ≢ 39
+  pub no_comment : b ≡ 47 → front_byte rest ≢ 39
 
 apart : (g k : ℕ) → (g ≡ 3) ⊎ (g ≡ 8) → g ≡ k → (k == 3) ≡ false → (k == 8) ≡ false → ⊥
 apart g k (inl h) e a c = absurd (let x : k ≡ 3 = sym e ∙ h in not_that k 3 a x)
@@ -455,15 +455,15 @@ single_sound b rest g n1 n2 n3 n4 n5 n6 n7 =
       no_comment = λ is. absurd (omega (arith, g, ap group is));
     })))))))))))
 
-mark_sound : (b : ℕ) (rest : List ℕ) → group b ≡ 8 → (b == 38) ≡ false → IsFront (b ∷ rest) (mark_of b (first rest))
+mark_sound : (b : ℕ) (rest : List ℕ) → group b ≡ 8 → (b == 38) ≡ false → IsFront (b ∷ rest) (mark_of b (front_byte rest))
 mark_sound b rest g no_amp =
     let bytes = b ∷ rest in
-    choose bytes (b == 43) _ _ (at_byte b 43 rest (with_equal (first rest) marks.PlusEqual marks.Plus) (equal_sound 43 rest marks.PlusEqual marks.Plus (omega arith) (last_no_number 43 rest refl) refl refl (λ h. rw h refl))) (λ n1.
-    choose bytes (b == 45) _ _ (at_byte b 45 rest (minus (first rest)) (minus_sound rest)) (λ n2.
-    choose bytes (b == 42) _ _ (at_byte b 42 rest (with_equal (first rest) marks.StarEqual marks.Star) (equal_sound 42 rest marks.StarEqual marks.Star (omega arith) (last_no_number 42 rest refl) refl refl (λ h. rw h refl))) (λ n3.
-    choose bytes (b == 92) _ _ (at_byte b 92 rest (with_equal (first rest) marks.BackslashEqual marks.Backslash) (equal_sound 92 rest marks.BackslashEqual marks.Backslash (omega arith) (last_no_number 92 rest refl) refl refl (λ h. rw h refl))) (λ n4.
-    choose bytes (b == 60) _ _ (at_byte b 60 rest (less (first rest)) (less_sound rest)) (λ n6.
-    choose bytes (b == 62) _ _ (at_byte b 62 rest (with_equal (first rest) marks.GreaterEqual marks.Greater) (equal_sound 62 rest marks.GreaterEqual marks.Greater (omega arith) (last_no_number 62 rest refl) refl refl (λ h. rw h refl))) (λ n7.
+    choose bytes (b == 43) _ _ (at_byte b 43 rest (with_equal (front_byte rest) marks.PlusEqual marks.Plus) (equal_sound 43 rest marks.PlusEqual marks.Plus (omega arith) (last_no_number 43 rest refl) refl refl (λ h. rw h refl))) (λ n1.
+    choose bytes (b == 45) _ _ (at_byte b 45 rest (minus (front_byte rest)) (minus_sound rest)) (λ n2.
+    choose bytes (b == 42) _ _ (at_byte b 42 rest (with_equal (front_byte rest) marks.StarEqual marks.Star) (equal_sound 42 rest marks.StarEqual marks.Star (omega arith) (last_no_number 42 rest refl) refl refl (λ h. rw h refl))) (λ n3.
+    choose bytes (b == 92) _ _ (at_byte b 92 rest (with_equal (front_byte rest) marks.BackslashEqual marks.Backslash) (equal_sound 92 rest marks.BackslashEqual marks.Backslash (omega arith) (last_no_number 92 rest refl) refl refl (λ h. rw h refl))) (λ n4.
+    choose bytes (b == 60) _ _ (at_byte b 60 rest (less (front_byte rest)) (less_sound rest)) (λ n6.
+    choose bytes (b == 62) _ _ (at_byte b 62 rest (with_equal (front_byte rest) marks.GreaterEqual marks.Greater) (equal_sound 62 rest marks.GreaterEqual marks.Greater (omega arith) (last_no_number 62 rest refl) refl refl (λ h. rw h refl))) (λ n7.
     single_sound b rest g n1 n2 n3 n4 no_amp n6 n7))))))
 
 slash_sound : (rest : List ℕ) → IsFront (47 ∷ rest) (slash rest)
@@ -475,19 +475,19 @@ slash_sound (c ∷ rest) =
 
 -- ---- an ampersand
 
-some_run : (test : ℕ → Bool) (bytes : List ℕ) → test (first bytes) ≡ true → test 0 ≡ false → 1 ≤ prefix_len test bytes
+some_run : (test : ℕ → Bool) (bytes : List ℕ) → test (front_byte bytes) ≡ true → test 0 ≡ false → 1 ≤ prefix_len test bytes
 some_run test [] h end = absurd (let e = sym h ∙ end in cc)
 some_run test (b ∷ bytes) h end = omega (arith, run_more test b bytes h)
 
-sym_first : (l : ℕ) (digits : List ℕ) → is_digit (base_of (lower l)) (slice_index (l ∷ digits) 1) ≡ true → is_digit (base_of (lower l)) (first digits) ≡ true
+sym_first : (l : ℕ) (digits : List ℕ) → is_digit (base_of (lower l)) (slice_index (l ∷ digits) 1) ≡ true → is_digit (base_of (lower l)) (front_byte digits) ≡ true
 sym_first l [] h = h
 sym_first l (d ∷ digits) h = h
 
-back_first : (l : ℕ) (digits : List ℕ) → is_digit (base_of (lower l)) (slice_index (l ∷ digits) 1) ≡ false → is_digit (base_of (lower l)) (first digits) ≡ false
+back_first : (l : ℕ) (digits : List ℕ) → is_digit (base_of (lower l)) (slice_index (l ∷ digits) 1) ≡ false → is_digit (base_of (lower l)) (front_byte digits) ≡ false
 back_first l [] h = h
 back_first l (d ∷ digits) h = h
 
-first_digit : (base : ℕ) (digits : List ℕ) (k : ℕ) → AreDigits base (take k digits) → is_digit base (first digits) ≡ false → ⊥
+first_digit : (base : ℕ) (digits : List ℕ) (k : ℕ) → AreDigits base (take k digits) → is_digit base (front_byte digits) ≡ false → ⊥
 first_digit base digits zero each none = absurd (omega (arith, each.1))
 first_digit base [] (suc k) each none = absurd (omega (arith, each.1))
 first_digit base (d ∷ digits) (suc k) each none = absurd (let e = sym each.0.0 ∙ none in cc)
@@ -511,7 +511,7 @@ ampersand_longest l digits n e some k (kinds.Mark which) within h = omega (arith
 ampersand_longest l digits n e some k kinds.Colon within h = absurd (let g = begins 38 (take k (l ∷ digits)) kinds.Colon h in omega (arith, g))
 ampersand_longest l digits n e some k kinds.LineEnd within h = absurd h
 
-based_sound : (l : ℕ) (digits : List ℕ) → is_digit (base_of (lower l)) (first digits) ≡ true → IsFront (38 ∷ l ∷ digits) (number (base_of (lower l)) 2 digits)
+based_sound : (l : ℕ) (digits : List ℕ) → is_digit (base_of (lower l)) (front_byte digits) ≡ true → IsFront (38 ∷ l ∷ digits) (number (base_of (lower l)) 2 digits)
 based_sound l digits h =
     let base = base_of (lower l) in
     let n = prefix_len (is_digit base) digits in
@@ -524,7 +524,7 @@ based_sound l digits h =
       closed = λ is. absurd (omega (arith, is));
     }))
 
-ampersand_no_number : (rest : List ℕ) → is_digit (base_of (lower (first rest))) (slice_index rest 1) ≡ false → NoNumber 38 rest
+ampersand_no_number : (rest : List ℕ) → is_digit (base_of (lower (front_byte rest))) (slice_index rest 1) ≡ false → NoNumber 38 rest
 ampersand_no_number rest h k value within (inl number) = absurd (let e = number.0.0.0 in cc)
 ampersand_no_number rest h zero value within (inr number) = absurd (let e = number.2 in cc)
 ampersand_no_number [] h (suc k) value within (inr number) = absurd (omega arith)

@@ -14,7 +14,7 @@ use Rattle.fb_lexer.specs.declared.piece.Piece.TheVariants as pieces
 use Rattle.fb_lexer.specs.declared.piece.Before.{Before}
 use Rattle.fb_lexer.specs.declared.piece.Before.TheVariants as before
 use Rattle.fb_lexer.specs.Letters.{is_blank, begins_name, is_in_name, is_in_line, lower, is_digit}
-use Rattle.fb_lexer.specs.Pieces.{first, line_length, closes, opens, value_of, base_of}
+use Rattle.fb_lexer.specs.Pieces.{front_byte, line_length, closes, opens, value_of, base_of}
 use Rattle.fb_lexer.specs.Spelling.{spelling}
 
 -- each byte passes a test
@@ -91,7 +91,7 @@ pub record IsLongest (bytes : List ℕ) (n : ℕ) (kind : TokenKind) : Type 0 wh
   pub within : n ≤ length bytes
   pub spells : Spells (take n bytes) kind
   pub longest : (m : ℕ) (other : TokenKind) → m ≤ length bytes → Spells (take m bytes) other → m ≤ n
-  pub closed : first bytes ≡ 34 → slice_index bytes n ≢ 34
+  pub closed : front_byte bytes ≡ 34 → slice_index bytes n ≢ 34
 
 -- ---- comments
 
@@ -109,7 +109,7 @@ IsEnclosed bytes = (rest : List ℕ) × (bytes ≡ 47 ∷ 39 ∷ rest) × Closes
 -- a comment at the front of a text: up to the line's end after an apostrophe or the word Rem, or one that is enclosed
 abbrev pub IsComment : List ℕ → ℕ → Type 0
 IsComment bytes n =
-    ((first bytes ≡ 39) × (n ≡ line_length bytes))
+    ((front_byte bytes ≡ 39) × (n ≡ line_length bytes))
     ⊎ (IsLongest bytes 3 (kinds.Word KwRem) × (n ≡ line_length bytes))
     ⊎ ((n ≤ length bytes) × IsEnclosed (take n bytes))
 
@@ -122,18 +122,18 @@ Fits kind = ⊤
 
 -- what stands at the front of a text, faults aside
 abbrev pub IsPiece : List ℕ → Piece → Type 0
-IsPiece bytes pieces.Blank = is_blank (first bytes) ≡ true
+IsPiece bytes pieces.Blank = is_blank (front_byte bytes) ≡ true
 IsPiece bytes (pieces.Comment n) = IsComment bytes n
-IsPiece bytes pieces.Join = (first bytes ≡ 95) × (is_in_name (slice_index bytes 1) ≡ false)
-IsPiece bytes pieces.LineEnd = first bytes ≡ 10
+IsPiece bytes pieces.Join = (front_byte bytes ≡ 95) × (is_in_name (slice_index bytes 1) ≡ false)
+IsPiece bytes pieces.LineEnd = front_byte bytes ≡ 10
 IsPiece bytes (pieces.Token kind n) = IsLongest bytes n kind × Fits kind
 IsPiece bytes (pieces.Fault kind) = ⊥
 
 abbrev pub IsOpenText : List ℕ → Type 0
-IsOpenText bytes = (first bytes ≡ 34) × ((n : ℕ) (text : List ℕ) → n ≤ length bytes → IsLiteral (take n bytes) text → slice_index bytes n ≡ 34)
+IsOpenText bytes = (front_byte bytes ≡ 34) × ((n : ℕ) (text : List ℕ) → n ≤ length bytes → IsLiteral (take n bytes) text → slice_index bytes n ≡ 34)
 
 abbrev pub IsOpenComment : List ℕ → Type 0
-IsOpenComment bytes = (first bytes ≡ 47) × (slice_index bytes 1 ≡ 39) × ((n : ℕ) → n ≤ length bytes → IsEnclosed (take n bytes) → ⊥)
+IsOpenComment bytes = (front_byte bytes ≡ 47) × (slice_index bytes 1 ≡ 39) × ((n : ℕ) → n ≤ length bytes → IsEnclosed (take n bytes) → ⊥)
 
 abbrev pub IsBigNumber : List ℕ → Type 0
 IsBigNumber bytes = (n : ℕ) × (value : ℕ) × IsLongest bytes n (kinds.Number value) × (2 ^ 64 ≤ value)

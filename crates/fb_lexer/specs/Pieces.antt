@@ -17,8 +17,8 @@ use Rattle.fb_lexer.specs.Letters.{is_blank, begins_name, is_in_name, is_in_line
 use Rattle.fb_lexer.specs.Words.{word_of}
 
 -- the first byte, and 0 where there is none
-abbrev pub first : List ℕ → ℕ
-first bytes = slice_index bytes 0
+abbrev pub front_byte : List ℕ → ℕ
+front_byte bytes = slice_index bytes 0
 
 -- ---- comments
 
@@ -48,7 +48,7 @@ comment_of (Some n) = Comment n
 
 -- after a slash
 abbrev pub slash : List ℕ → Piece
-slash bytes = if first bytes == 39 then comment_of (rest_of_comment 1 2 (drop 1 bytes)) else Fault BadByte
+slash bytes = if front_byte bytes == 39 then comment_of (rest_of_comment 1 2 (drop 1 bytes)) else Fault BadByte
 
 -- ---- literals
 
@@ -132,9 +132,9 @@ base_of b = if b == 104 then 16 else (if b == 111 then 8 else (if b == 98 then 2
 -- after an &
 abbrev pub ampersand : List ℕ → Piece
 ampersand bytes =
-    if is_digit (base_of (lower (first bytes))) (slice_index bytes 1)
-    then number (base_of (lower (first bytes))) 2 (drop 1 bytes)
-    else with_equal (first bytes) marks.AmpersandEqual marks.Ampersand
+    if is_digit (base_of (lower (front_byte bytes))) (slice_index bytes 1)
+    then number (base_of (lower (front_byte bytes))) 2 (drop 1 bytes)
+    else with_equal (front_byte bytes) marks.AmpersandEqual marks.Ampersand
 
 -- ---- names
 
@@ -149,7 +149,7 @@ named name length rest =
 
 abbrev pub name : ℕ → List ℕ → Piece
 name length bytes =
-    if (length == 1) && (first bytes == 95) then Join else named (map lower (take length bytes)) length (drop length bytes)
+    if (length == 1) && (front_byte bytes == 95) then Join else named (map lower (take length bytes)) length (drop length bytes)
 
 -- ---- pieces
 
@@ -164,7 +164,7 @@ begun b bytes =
     else (if is_ascii_digit b then number 10 0 (b ∷ bytes)
     else (if begins_name b then name (prefix_len is_in_name (b ∷ bytes)) (b ∷ bytes)
     else (if b == 38 then ampersand bytes
-    else mark_of b (first bytes))))))))
+    else mark_of b (front_byte bytes))))))))
 
 -- what may stand after what is before it: after a join only white space, comments and the line's end, and a join
 -- only after white space or at a line's start

@@ -1,14 +1,14 @@
 //! Comments, and what is left of a line.
 ghost use Rattle.std.specs.Prelude.{◌≡◌, ◌<◌, ◌≤◌, ◌+◌, ◌^◌, length, IfSome};
-ghost use Rattle.fb_lexer.specs.Pieces.{line_length, closes, opens, rest_of_comment, slash, first};
+ghost use Rattle.fb_lexer.specs.Pieces.{line_length, closes, opens, rest_of_comment, slash, front_byte};
 ghost use Rattle.fb_lexer.specs.Lengths.{Stands};
 
 use crate::piece::Piece;
 use fb_base::FaultKind;
 
 /// The first byte, and 0 where there is none.
-pub fn first(bytes: &[u8]) -> u8
-    ensures { result ≡ first bytes.now }
+pub fn front_byte(bytes: &[u8]) -> u8
+    ensures { result ≡ front_byte bytes.now }
 {
     if let [b, ..] = bytes { *b } else { 0 }
 }

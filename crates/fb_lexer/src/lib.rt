@@ -20,6 +20,3 @@ pub use lexing::{LexErr, Tokens, lex, one_piece, one_row};
 pub use piece::{Before, Piece};
 pub use token::{Mark, Token, TokenKind};
 pub use word::Word;
-
-#[cfg(test)]
-mod tests;

@@ -1,10 +1,10 @@
 //! Marks.
 ghost use Rattle.std.specs.Prelude.{◌≡◌, ◌<◌, ◌≤◌, ◌+◌, ◌^◌, length};
-ghost use Rattle.fb_lexer.specs.Pieces.{first, with_equal, less, minus, single, mark_of, base_of, ampersand};
+ghost use Rattle.fb_lexer.specs.Pieces.{front_byte, with_equal, less, minus, single, mark_of, base_of, ampersand};
 ghost use Rattle.fb_lexer.specs.Lengths.{Stands};
 ghost use Rattle.fb_lexer.specs.Marks.{IsShort};
 
-use crate::comment::first;
+use crate::comment::front_byte;
 use crate::letters::{digit_value, lower};
 use crate::number::number;
 use crate::piece::Piece;
@@ -84,10 +84,10 @@ fn mark_of(b: u8, next: u8) -> Piece
 
 /// The mark that begins with a byte, which these follow.
 pub fn mark(b: u8, bytes: &[u8]) -> Piece
-    ensures value { result ≡ mark_of b (first bytes.now) }
+    ensures value { result ≡ mark_of b (front_byte bytes.now) }
     ensures within { Stands (1 + length bytes.now) result }
 {
-    mark_of(b, first(bytes))
+    mark_of(b, front_byte(bytes))
 }
 
 // The base that a letter after & names, and 0 for every other byte.
@@ -108,11 +108,11 @@ pub fn ampersand(bytes: &[u8]) -> Piece
     ensures value { result ≡ ampersand bytes.now }
     ensures within { Stands (1 + length bytes.now) result }
 {
-    let base = base_of(lower(first(bytes)));
+    let base = base_of(lower(front_byte(bytes)));
     if let [_, digits @ ..] = bytes
-        && digit_value(first(digits)) < base
+        && digit_value(front_byte(digits)) < base
     {
         return number(base, 2, digits);
     }
-    with_equal(first(bytes), Mark::AmpersandEqual, Mark::Ampersand)
+    with_equal(front_byte(bytes), Mark::AmpersandEqual, Mark::Ampersand)
 }

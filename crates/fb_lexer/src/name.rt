@@ -2,14 +2,17 @@
 ghost use Rattle.std.specs.Prelude.{◌≡◌, ◌<◌, ◌≤◌, ◌+◌, ◌^◌, length, map, take, drop, IfOk};
 ghost use Rattle.std.specs.List.{prefix_len};
 ghost use Rattle.fb_lexer.specs.Letters.{is_in_name, lower};
-ghost use Rattle.fb_lexer.specs.Pieces.{named, name};
+ghost use Rattle.fb_lexer.specs.Pieces.{line_length, named, name};
+ghost use Rattle.fb_lexer.specs.declared.piece.Piece.TheVariants.{Comment, Token};
+ghost use Rattle.fb_lexer.specs.declared.token.TokenKind.TheVariants.{Word as Reserved};
+ghost use Rattle.fb_lexer.specs.declared.word.Word.TheVariants.{KwRem};
 ghost use Rattle.fb_lexer.specs.Lengths.{Stands};
 
-use crate::comment::{first, line_length};
-use crate::letters::{is_in_name, lower};
+use crate::comment::{front_byte, line_length};
+use crate::letters::is_in_name;
 use crate::piece::Piece;
 use crate::token::TokenKind;
-use crate::word::word_of;
+use crate::word::{Word, word_of};
 use fb_base::{NoMemory, Text};
 use std::alloc::Global;
 
@@ -25,30 +28,39 @@ fn name_length(bytes: &[u8]) -> usize
     n
 }
 
-// The bytes in lower case.
-fn lowered(alloc: Global, bytes: &[u8]) -> Result<Vec<u8>, NoMemory>
-    ensures { IfOk result (λ v. v.items ≡ map lower bytes.now) }
+// The text of a name: its bytes in lower case.
+fn lowered(alloc: Global, bytes: &[u8]) -> Result<Text, NoMemory>
+    ensures { IfOk result (λ text. text ≡ map lower bytes.now) }
 {
-    let mut text = Vec::new(alloc);
-    for b in bytes {
-        text.push(lower(*b))?;
-    }
-    Ok(text)
+    Ok(Text::from_vec(bytes.to_ascii_lowercase(alloc)?))
 }
 
-// The piece of a name in lower case that takes so many bytes, which these follow.
-fn named(name: Vec<u8>, n: usize, rest: &[u8]) -> Piece
+// The piece of a reserved word that takes so many bytes, which these follow.
+fn reserved(word: Word, n: usize, rest: &[u8]) -> Piece
     requires some { 1 ≤ n }
     requires short { n + length rest.now < 2 ^ 64 }
-    ensures value { result ≡ named name.items n rest.now }
+    ensures rem { word ≡ KwRem → result ≡ Comment (n + line_length rest.now) }
+    ensures token { (word ≡ KwRem → ⊥) → result ≡ Token (Reserved word) n }
     ensures within { Stands (n + length rest.now) result }
 {
-    if name.as_slice() == "rem".as_bytes() {
-        return Piece::Comment(n + line_length(rest));
+    match word {
+        Word::KwRem => Piece::Comment(n + line_length(rest)),
+        _ => Piece::Token(TokenKind::Word(word), n),
     }
-    match word_of(name.as_slice()) {
-        Some(word) => Piece::Token(TokenKind::Word(word), n),
-        None => Piece::Token(TokenKind::Name(Text::from_vec(name)), n),
+}
+
+// The piece of a name or reserved word, which the other bytes follow. A reserved word is looked up where it stands; only
+// a name is copied.
+fn named(alloc: Global, front: &[u8], rest: &[u8]) -> Result<Piece, NoMemory>
+    requires some { 1 ≤ length front.now }
+    requires short { length front.now + length rest.now < 2 ^ 64 }
+    ensures value { IfOk result (λ piece. piece ≡ named (map lower front.now) (length front.now) rest.now) }
+    ensures within { IfOk result (λ piece. Stands (length front.now + length rest.now) piece) }
+{
+    let n = front.len();
+    match word_of(front) {
+        Some(word) => Ok(reserved(word, n, rest)),
+        None => Ok(Piece::Token(TokenKind::Name(lowered(alloc, front)?), n)),
     }
 }
 
@@ -60,9 +72,9 @@ pub fn name(alloc: Global, bytes: &[u8]) -> Result<Piece, NoMemory>
     ensures within { IfOk result (λ piece. Stands (length bytes.now) piece) }
 {
     let n = name_length(bytes);
-    if n == 1 && first(bytes) == b'_' {
+    if n == 1 && front_byte(bytes) == b'_' {
         return Ok(Piece::Join);
     }
     let (front, rest) = bytes.split_at(n);
-    Ok(named(lowered(alloc, front)?, n, rest))
+    named(alloc, front, rest)
 }

@@ -1,5 +1,11 @@
 ghost use Rattle.std.specs.Prelude.{◌≡◌, map, true};
+ghost use Rattle.std.specs.Ordering.{nat_cmp};
+ghost use Rattle.std.specs.Cmp.Lexicographic.{slice_cmp};
+ghost use Rattle.fb_lexer.specs.Letters.{lower};
 ghost use Rattle.fb_lexer.specs.Words.{are_sorted, row_of, word_of};
+
+use crate::letters::lower;
+use std::cmp::Ordering;
 
 /// A reserved word, in the order of its group: the types, the words of statements and expressions, the calls, and the
 /// words of FreeBASIC that this profile doesn't have. `KwRem` begins a comment and is never a token.
@@ -297,20 +303,43 @@ static WORDS: [(&str, Word); 143] = [
     ("zstring", Word::KwZString),
 ];
 
-// The word of these bytes in a table that is in the order of its bytes.
+// How a word's spelling stands to a name, whose capital letters count as small ones, in the order of bytes.
+fn compared(spelling: &[u8], name: &[u8]) -> Ordering
+    ensures { result ≡ slice_cmp nat_cmp spelling.now (map lower name.now) }
+{
+    let mut letters = spelling;
+    let mut bytes = name;
+    while let Some((b, rest)) = bytes.split_first() {
+        let Some((letter, more)) = letters.split_first() else {
+            return Ordering::Less;
+        };
+        let order = letter.cmp(&lower(*b));
+        if order != Ordering::Equal {
+            return order;
+        }
+        letters = more;
+        bytes = rest;
+    }
+    match letters.split_first() {
+        Some(_) => Ordering::Greater,
+        None => Ordering::Equal,
+    }
+}
+
+// The word of a name in a table that is in the order of its bytes.
 fn search(table: &[(&str, Word)], name: &[u8]) -> Option<Word>
     requires { are_sorted (map (λ row. (row.0.now, row.1)) table.now) ≡ true }
-    ensures { result ≡ row_of (map (λ row. (row.0.now, row.1)) table.now) name.now }
+    ensures { result ≡ row_of (map (λ row. (row.0.now, row.1)) table.now) (map lower name.now) }
 {
-    match table.binary_search_by(|row| row.0.as_bytes().cmp(name)) {
+    match table.binary_search_by(|row| compared(row.0.as_bytes(), name)) {
         Ok(at) => Some(table[at].1),
         Err(_) => None,
     }
 }
 
-/// The reserved word that these bytes spell in lower case.
+/// The reserved word that a name is, whatever the case of its letters.
 pub fn word_of(name: &[u8]) -> Option<Word>
-    ensures { result ≡ word_of name.now }
+    ensures { result ≡ word_of (map lower name.now) }
 {
     search(&WORDS, name)
 }

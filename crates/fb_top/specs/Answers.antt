@@ -1,7 +1,7 @@
 use Rattle.std.specs.Prelude.{◌≡◌, ℕ, ◌⊎◌, List, [], ◌∷◌, Option, Bool, true, false, ⊤, codes}
 use Rattle.fb_base.specs.declared.ending.Ending.{Ending}
 use Rattle.fb_base.specs.declared.ending.Ending.TheVariants as endings
-use Rattle.fb_base.specs.declared.ending.UsageWhy.TheVariants.{Words}
+use Rattle.fb_base.specs.declared.ending.UsageWhy.TheVariants.{Words, BadNumber, Excluded, NotBuilt}
 use Rattle.fb_base.specs.declared.ending.WhichSink.TheVariants as sinks
 use Rattle.fb_base.specs.declared.fault.Fault.{Fault}
 use Rattle.host_edge.specs.Faults.{Rose}
@@ -103,6 +103,9 @@ EndsAs words old new schedule (endings.TurnsSpent thread line) = NamedEndsAs wor
 EndsAs words old new schedule (endings.EntriesSpent limit) = NamedEndsAs words old new schedule (endings.EntriesSpent limit)
 EndsAs words old new schedule (endings.WriteFault sink) = NamedEndsAs words old new schedule (endings.WriteFault sink)
 EndsAs words old new schedule (endings.Usage Words) = ((name : List ℕ) → AskToRun words name → ⊥) × NothingRun old.out new.out schedule
+EndsAs words old new schedule (endings.Usage BadNumber) = ⊥
+EndsAs words old new schedule (endings.Usage Excluded) = ⊥
+EndsAs words old new schedule (endings.Usage NotBuilt) = ⊥
 EndsAs words old new schedule (endings.NoFile name) = NamedEndsAs words old new schedule (endings.NoFile name)
 EndsAs words old new schedule (endings.TooLong name) = NamedEndsAs words old new schedule (endings.TooLong name)
 EndsAs words old new schedule endings.StoreFault = NamedEndsAs words old new schedule endings.StoreFault

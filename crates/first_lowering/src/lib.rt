@@ -4,8 +4,6 @@
 mod emit;
 mod law;
 mod program;
-#[cfg(test)]
-mod tests;
 
 pub use law::lowering;
 pub use program::lower;

@@ -2,6 +2,8 @@
 //! says how long it took.
 #![tactic(auto)]
 
+#[cfg(test)]
+mod lock_tests;
 mod meet;
 mod tally;
 mod timing;

@@ -8,18 +8,22 @@ ghost use Rattle.main_run.specs.Entries.{EntryEndsAs, bytes_of, standing_of};
 use crate::calls::{Prepared, prepared_by};
 use crate::segment::segment;
 use fb_base::{Ending, NoMemory, Schedule, WhichSink};
-use fb_image::Image;
 use host_edge::{Sink, put_all};
 use rv_isa::Reg;
-use rv_step::Cpu;
+use rv_step::{Cpu, Program};
 use std::alloc::Global;
 
 /// Runs a segment, and finds what its end asks for.
-fn next_entry(alloc: Global, image: &Image, cpu: &mut Cpu, turns: u64) -> Result<Prepared, NoMemory>
-    ensures entry { IfOk result (λ prepared. Entry (isa.machine_step (machine_of image.now cpu.old.low)) turns (cpu_of cpu.old) (bytes_of prepared) (standing_of (cpu_of cpu.new) prepared)) }
+fn next_entry(
+    alloc: Global,
+    program: &Program,
+    cpu: &mut Cpu,
+    turns: u64,
+) -> Result<Prepared, NoMemory>
+    ensures entry { IfOk result (λ prepared. Entry (isa.machine_step (machine_of program.now cpu.old.low)) turns (cpu_of cpu.old) (bytes_of prepared) (standing_of (cpu_of cpu.new) prepared)) }
     ensures low { cpu.new.low ≡ cpu.old.low }
 {
-    let reached = segment(image, cpu, turns)?;
+    let reached = segment(program, cpu, turns)?;
     prepared_by(alloc, cpu, reached)
 }
 
@@ -38,13 +42,13 @@ fn make_room<K: Sink>(count: usize, out: &mut K, schedule: &mut Schedule) -> Res
 /// Finds what the next entry is about to do, and makes the room that it needs.
 fn prepare<K: Sink>(
     alloc: Global,
-    image: &Image,
+    program: &Program,
     cpu: &mut Cpu,
     turns: u64,
     out: &mut K,
     schedule: &mut Schedule,
 ) -> Result<Prepared, NoMemory>
-    ensures entry { IfOk result (λ prepared. Entry (isa.machine_step (machine_of image.now cpu.old.low)) turns (cpu_of cpu.old) (bytes_of prepared) (standing_of (cpu_of cpu.new) prepared)) }
+    ensures entry { IfOk result (λ prepared. Entry (isa.machine_step (machine_of program.now cpu.old.low)) turns (cpu_of cpu.old) (bytes_of prepared) (standing_of (cpu_of cpu.new) prepared)) }
     ensures low { cpu.new.low ≡ cpu.old.low }
     ensures ok { IfOk result (λ prepared. length (bytes_of prepared) ≤ K.spare out.new) }
     ensures room { OnOk result (1 ≤ schedule.new.spare) }
@@ -52,7 +56,7 @@ fn prepare<K: Sink>(
     ensures written { K.written out.new ≡ K.written out.old }
     ensures faults { K.faults out.new ≡ K.faults out.old }
 {
-    let prepared = next_entry(alloc, image, cpu, turns)?;
+    let prepared = next_entry(alloc, program, cpu, turns)?;
     let count = match &prepared {
         Prepared::Print(bytes) => bytes.len(),
         Prepared::End | Prepared::Trap { .. } | Prepared::Spent { .. } => 0,
@@ -67,18 +71,18 @@ fn prepare<K: Sink>(
 /// All room is made first, then the entry is put into the schedule, and its bytes are written last.
 pub fn do_entry<K: Sink>(
     alloc: Global,
-    image: &Image,
+    program: &Program,
     cpu: &mut Cpu,
     turns: u64,
     out: &mut K,
     schedule: &mut Schedule,
 ) -> Option<Ending>
-    ensures ends { EntryEndsAs (isa.machine_step (machine_of image.now cpu.old.low)) turns (cpu_of cpu.old) (cpu_of cpu.new) (K.written out.old) (K.written out.new) (K.faults out.old) (K.faults out.new) schedule.old.items schedule.new.items result }
+    ensures ends { EntryEndsAs (isa.machine_step (machine_of program.now cpu.old.low)) turns (cpu_of cpu.old) (cpu_of cpu.new) (K.written out.old) (K.written out.new) (K.faults out.old) (K.faults out.new) schedule.old.items schedule.new.items result }
     ensures low { cpu.new.low ≡ cpu.old.low }
     ensures told { SameTelling (K.written out.old) (K.written out.new) }
     ensures later { K.faults out.old ≤ K.faults out.new }
 {
-    let Ok(prepared) = prepare(alloc, image, cpu, turns, out, schedule) else {
+    let Ok(prepared) = prepare(alloc, program, cpu, turns, out, schedule) else {
         return Some(Ending::NoMemory);
     };
     schedule.add(0);

@@ -7,8 +7,6 @@ mod lone;
 mod outcome;
 mod run;
 mod segment;
-#[cfg(test)]
-mod tests;
 
 pub use outcome::Solo;
 pub use run::solo;

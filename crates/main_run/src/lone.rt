@@ -7,7 +7,13 @@ use rv_step::{Bus, BusErr};
 pub struct Lone;
 
 impl Bus for Lone {
+    ghost use Rattle.std.specs.Prelude.{None};
+
     ghost mem = { λ bus. nothing };
+
+    ghost seen = { λ bus. None };
+
+    ghost at = { λ bus. 0 };
 
     #[inline]
     fn load(&mut self, _addr: u64, _width: u8) -> Result<u64, BusErr> {

@@ -9,41 +9,61 @@ use crate::outcome::Solo;
 use fb_base::{Ending, Schedule};
 use fb_image::Image;
 use host_edge::{Sink, Source};
-use rv_step::Cpu;
+use rv_step::{Cpu, Program};
 use std::alloc::Global;
 
 /// The main thread of an image as it begins.
-fn main_thread(alloc: Global, image: &Image) -> Cpu
-    ensures state { cpu_of result ≡ main_cpu image.now }
+fn main_thread(alloc: Global, program: &Program) -> Cpu
+    ensures state { cpu_of result ≡ main_cpu program.now }
     ensures low { result.low ≡ stack_of 0 }
 {
-    let start = image.entry(0).unwrap_or(0);
+    let start = program.image().entry(0).unwrap_or(0);
     Cpu::new(alloc, 0, 4 * u64::from(start), 0)
 }
 
 /// Makes entries until the run is over or the limit is reached, and answers how it ends.
 fn run<K: Sink>(
     alloc: Global,
-    image: &Image,
+    program: &Program,
     turns: u64,
     entries: u32,
     out: &mut K,
     schedule: &mut Schedule,
 ) -> Ending
     requires { schedule.old.items ≡ [] }
-    ensures ends { SoloEndsAs (machine_step (main_machine image.now)) turns (main_cpu image.now) entries (K.written out.old) (K.written out.new) (K.faults out.old) (K.faults out.new) schedule.new.items result }
+    ensures ends { SoloEndsAs (machine_step (main_machine program.now)) turns (main_cpu program.now) entries (K.written out.old) (K.written out.new) (K.faults out.old) (K.faults out.new) schedule.new.items result }
     ensures told { SameTelling (K.written out.old) (K.written out.new) }
     ensures later { K.faults out.old ≤ K.faults out.new }
 {
-    let mut cpu = main_thread(alloc, image);
+    let mut cpu = main_thread(alloc, program);
     let mut made = 0;
     'entries: while made < entries {
-        match do_entry(alloc, image, &mut cpu, turns, out, schedule) {
+        match do_entry(alloc, program, &mut cpu, turns, out, schedule) {
             Some(ending) => return ending,
             None => made += 1,
         }
     }
     Ending::EntriesSpent { limit: entries }
+}
+
+/// Decodes an image and makes its entries, and answers how the run ends.
+fn run_image<K: Sink>(
+    alloc: Global,
+    image: Image,
+    turns: u64,
+    entries: u32,
+    out: &mut K,
+    schedule: &mut Schedule,
+) -> Ending
+    requires { schedule.old.items ≡ [] }
+    ensures ends { SoloEndsAs (machine_step (main_machine image)) turns (main_cpu image) entries (K.written out.old) (K.written out.new) (K.faults out.old) (K.faults out.new) schedule.new.items result }
+    ensures told { SameTelling (K.written out.old) (K.written out.new) }
+    ensures later { K.faults out.old ≤ K.faults out.new }
+{
+    let Ok(program) = Program::new(alloc, image) else {
+        return Ending::NoMemory;
+    };
+    run(alloc, &program, turns, entries, out, schedule)
 }
 
 /// Runs the main thread of an image alone, on the machine of RV64IM (RISC-V Instruction Set Manual, volume I), until
@@ -74,7 +94,7 @@ pub fn solo<S: Source, K: Sink>(
 {
     let mut out = out;
     let mut schedule = Schedule::new(alloc);
-    let ending = run(alloc, &image, turns, entries, &mut out, &mut schedule);
+    let ending = run_image(alloc, image, turns, entries, &mut out, &mut schedule);
     Solo {
         ending,
         schedule,

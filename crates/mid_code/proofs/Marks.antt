@@ -1,14 +1,13 @@
-use Rattle.std.proofs.Common.{◌≡◌, ◌≢◌, ℕ, zero, suc, ◌+◌, ◌<◌, ◌≤◌, ◌==◌, ◌⊎◌, inl, inr, Bool, true, false, not, nat_lt, ◌&&◌, ◌||◌, List, [], ◌∷◌, length, set, get_or, Option, Some, None, arith, refl, sym, ◌∙◌, ap, subst, unwrap_or, option_map, ◌++◌, slice_get, IsTrue, ◌↔◌}
+use Rattle.std.proofs.Common.{◌≡◌, ℕ, zero, suc, ◌+◌, ◌<◌, ◌==◌, ◌⊎◌, inl, inr, Bool, true, false, ◌&&◌, ◌||◌, List, [], ◌∷◌, length, set, get_or, Option, Some, None, arith, refl, sym, ◌∙◌, ap, subst, unwrap_or, option_map, ◌++◌, slice_get, IsTrue, ◌↔◌}
 use Rattle.std.proofs.lemmas.Option.{slice_get-get_or}
 use Rattle.std.proofs.lemmas.List.{length-set}
 use Rattle.std.proofs.lemmas.Bool.{eqb-true}
 use Rattle.mid_code.specs.declared.reg.Reg.{Reg}
 use Rattle.mid_code.specs.declared.op.MidOp.{MidOp}
 use Rattle.mid_code.specs.declared.op.LinedOp.{LinedOp}
-use Rattle.mid_code.specs.declared.reg.Reg.TheVariants.{Temp, Var, Place}
 use Rattle.mid_code.specs.Operations.{MidCode, op_in, ops_of, code_of}
 use Rattle.mid_code.specs.Flow.{Among, reads_of, writes_of, nexts_of, target_of, Live, reads_now, reads_later, IsSound, AreLawful}
-use Rattle.mid_code.specs.Paths.{alone, Unwritten, begins, comes, marked, unmarked, is_new, with_marks, any_new, AreReached, IsClosedAt, Grows, IsBlank, IsExact, IsReadAt, number_of, ReadsBelow, IsWrittenFirst, AreNumbered, AreWrittenFirst, IsBelow, HasTarget, TargetsExist, IsKept}
+use Rattle.mid_code.specs.Paths.{alone, Unwritten, begins, comes, marked, unmarked, is_new, with_marks, any_new, AreReached, IsClosedAt, Grows, IsBlank, IsExact, IsReadAt, IsWrittenFirst, AreWrittenFirst, IsBelow, HasTarget, TargetsExist, IsKept}
 
 -- A mark more: what it does to the count.
 count_new : (marks : List Bool) (j : ℕ) → is_new marks j ≡ true → suc (unmarked (set marks j true)) ≡ unmarked marks
@@ -184,22 +183,6 @@ pub read_here : (ops : List LinedOp) (r : Reg) (marks : List Bool) (i : ℕ) (d 
 read_here ops r marks i d at less =
     let e : (get_or ops i d).op ≡ at.op = some_same (get_or ops i d).op at.op (sym (op_here ops i d less) ∙ at.is) in
     subst (λ o. Among r (reads_of o)) (sym e) at.reads
-
--- a register that is live at the beginning is read somewhere
-pub read_somewhere : (ops : List LinedOp) (r : Reg) (i : ℕ) → Live (alone ops) 0 i r → (j : ℕ) × (op : MidOp) × (op_in ops j ≡ Some op) × Among r (reads_of op)
-read_somewhere ops r i (reads_now _ _ op is among) = (i, op, is, among)
-read_somewhere ops r i (reads_later _ j _ op is among other later) = read_somewhere ops r j later
-
--- the registers of a number, one by one
-pub numbered : (ops : List LinedOp) (r : Reg) → AreNumbered ops (number_of r) → IsWrittenFirst ops r
-numbered ops (Temp n) h = h.temp
-numbered ops (Var n) h = h.var
-numbered ops (Place n) h = h.place
-
-pub all_numbered : (ops : List LinedOp) (most : ℕ) → ((i : ℕ) (op : MidOp) → op_in ops i ≡ Some op → ReadsBelow most op) → ((n : ℕ) → n < most → AreNumbered ops n) → AreWrittenFirst ops
-all_numbered ops most below first r live =
-    let s = read_somewhere ops r 0 live in
-    numbered ops r (first (number_of r) (below s.0 s.1 s.2 r s.3)) live
 
 -- what holds of each operation before a position and of the one there
 pub each_more : (ops : List LinedOp) (n i : ℕ) (d : LinedOp) → ((k : ℕ) (op : MidOp) → k < i → op_in ops k ≡ Some op → HasTarget n op) → i < length ops → HasTarget n (get_or ops i d).op → (k : ℕ) (op : MidOp) → k < i + 1 → op_in ops k ≡ Some op → HasTarget n op

@@ -1,3 +1,4 @@
+pub mod Covers
 pub mod Flow
 pub mod Operations
 pub mod Paths

@@ -1,7 +1,6 @@
 -- Paths through a procedure on which a register isn't written, and the marks by which they are searched.
 use Rattle.std.specs.Prelude.{◌≡◌, ℕ, suc, ◌<◌, ◌≤◌, Bool, true, false, not, nat_lt, ◌&&◌, ◌||◌, List, [], ◌∷◌, length, slice_index_or, slice_set, Option, Some, None, IsTrue, ◌↔◌}
 use Rattle.mid_code.specs.declared.reg.Reg.{Reg}
-use Rattle.mid_code.specs.declared.reg.Reg.TheVariants.{Temp, Var, Place}
 use Rattle.mid_code.specs.declared.op.MidOp.{MidOp}
 use Rattle.mid_code.specs.declared.op.LinedOp.{LinedOp}
 use Rattle.mid_code.specs.Operations.{MidCode, op_in, code_of}
@@ -72,27 +71,12 @@ pub record IsExact (ops : List LinedOp) (r : Reg) (marks : List Bool) : Type 0 w
   pub sound : AreReached ops r marks
   pub all : (i : ℕ) → i < length ops → Unwritten ops r i → marked marks i ≡ true
 
-abbrev pub number_of : Reg → ℕ
-number_of (Temp n) = n
-number_of (Var n) = n
-number_of (Place n) = n
-
--- each register that an operation reads has a number below this
-abbrev pub ReadsBelow : ℕ → MidOp → Type 0
-ReadsBelow n op = (r : Reg) → Among r (reads_of op) → number_of r < n
-
 -- the register is written before it is read on every path
 abbrev pub IsWrittenFirst : List LinedOp → Reg → Type 0
 IsWrittenFirst ops r = Live (alone ops) 0 0 r → ⊥
 
 abbrev pub AreWrittenFirst : List LinedOp → Type 0
 AreWrittenFirst ops = (r : Reg) → IsWrittenFirst ops r
-
--- the registers of a number
-pub record AreNumbered (ops : List LinedOp) (n : ℕ) : Type 0 where
-  pub temp : IsWrittenFirst ops (Temp n)
-  pub var : IsWrittenFirst ops (Var n)
-  pub place : IsWrittenFirst ops (Place n)
 
 -- an operation's target, if it has one, is among so many positions
 abbrev pub IsBelow : ℕ → Option ℕ → Type 0

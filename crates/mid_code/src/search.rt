@@ -1,12 +1,11 @@
 //! The search for registers that may be read before they are written.
-ghost use Rattle.std.specs.Prelude.{◌≡◌, ◌↔◌, ℕ, ◌+◌, ◌<◌, ◌≤◌, ◌^◌, ◌==◌, not, ◌&&◌, nat_lt, true, false, length, slice_set, IfOk, IsTrue, Some};
-ghost use Rattle.std.specs.List.{All};
+ghost use Rattle.std.specs.Prelude.{◌≡◌, ◌↔◌, ◌⊎◌, ℕ, ◌<◌, true, false, [], length, slice_set, IfOk, IsTrue, Some};
 ghost use Rattle.mid_code.specs.declared.reg.Reg.{Reg};
-ghost use Rattle.mid_code.specs.declared.op.MidOp.{MidOp};
-ghost use Rattle.mid_code.specs.Operations.{op_in};
-ghost use Rattle.mid_code.specs.Flow.{Among, reads_of, writes_of, nexts_of};
-ghost use Rattle.mid_code.specs.Paths.{is_new, any_new, with_marks, marked, unmarked, Grows, AreReached, IsClosedAt, IsBlank, IsExact, IsReadAt, ReadsBelow, number_of, IsWrittenFirst, AreNumbered, AreWrittenFirst, HasTarget, TargetsExist};
+ghost use Rattle.mid_code.specs.Covers.{AreSettled, IsCover, IsSettled, registers_of};
+ghost use Rattle.mid_code.specs.Flow.{Among, in_front, reads_of, writes_of, nexts_of};
+ghost use Rattle.mid_code.specs.Paths.{is_new, any_new, with_marks, marked, unmarked, Grows, AreReached, IsClosedAt, IsBlank, IsExact, IsReadAt, IsWrittenFirst, AreWrittenFirst, HasTarget, TargetsExist};
 
+use crate::cover::{Cover, cover_of, is_covered, note_write};
 use crate::{LinedOp, MidOp, Reg};
 use fb_base::NoMemory;
 use std::alloc::Global;
@@ -25,7 +24,7 @@ fn mark(marks: &mut Vec<bool>, at: usize) -> bool
 }
 
 /// The register that an operation writes.
-fn written(op: MidOp) -> Option<Reg>
+pub fn written(op: MidOp) -> Option<Reg>
     ensures { result ≡ writes_of op }
 {
     match op {
@@ -39,12 +38,59 @@ fn written(op: MidOp) -> Option<Reg>
 }
 
 /// Whether an operation writes a register.
-fn writes(op: MidOp, r: Reg) -> bool
+pub fn writes(op: MidOp, r: Reg) -> bool
     ensures { IsTrue result ↔ (writes_of op ≡ Some r) }
 {
     match written(op) {
         Some(to) => to == r,
         None => false,
+    }
+}
+
+/// The registers that an operation reads, in order.
+#[derive(Clone, Copy)]
+struct FourReads {
+    first: Option<Reg>,
+    second: Option<Reg>,
+    third: Option<Reg>,
+    fourth: Option<Reg>,
+}
+
+/// At most two.
+fn two_reads(first: Option<Reg>, second: Option<Reg>) -> FourReads
+    ensures { registers_of result ≡ in_front first (in_front second []) }
+{
+    FourReads {
+        first,
+        second,
+        third: None,
+        fourth: None,
+    }
+}
+
+/// Those of an operation.
+fn reads_at(op: MidOp) -> FourReads
+    ensures { registers_of result ≡ reads_of op }
+{
+    match op {
+        MidOp::Copy { from, .. } => two_reads(Some(from), None),
+        MidOp::Both { left, right, .. } | MidOp::Divide { left, right, .. } => {
+            two_reads(Some(left), Some(right))
+        },
+        MidOp::Runtime {
+            first,
+            second,
+            third,
+            fourth,
+            ..
+        } => FourReads {
+            first,
+            second,
+            third,
+            fourth,
+        },
+        MidOp::Unless { test, .. } => two_reads(Some(test), None),
+        MidOp::Const { .. } | MidOp::Skip { .. } | MidOp::Back { .. } => two_reads(None, None),
     }
 }
 
@@ -62,21 +108,11 @@ fn is_this(one: Option<Reg>, r: Reg) -> bool
 fn reads(op: MidOp, r: Reg) -> bool
     ensures { IsTrue result ↔ Among r (reads_of op) }
 {
-    match op {
-        MidOp::Copy { from, .. } => from == r,
-        MidOp::Both { left, right, .. } | MidOp::Divide { left, right, .. } => {
-            left == r || right == r
-        },
-        MidOp::Runtime {
-            first,
-            second,
-            third,
-            fourth,
-            ..
-        } => is_this(first, r) || is_this(second, r) || is_this(third, r) || is_this(fourth, r),
-        MidOp::Unless { test, .. } => test == r,
-        MidOp::Const { .. } | MidOp::Skip { .. } | MidOp::Back { .. } => false,
-    }
+    let four = reads_at(op);
+    is_this(four.first, r)
+        || is_this(four.second, r)
+        || is_this(four.third, r)
+        || is_this(four.fourth, r)
 }
 
 /// Marks where an operation may go on.
@@ -178,81 +214,87 @@ fn is_written_first(alloc: Global, ops: &[LinedOp], r: Reg) -> Result<bool, NoMe
     Ok(true)
 }
 
-/// A number above those of all registers that an operation reads.
-fn reads_below(op: MidOp) -> u64
-    ensures below { ReadsBelow result op }
-    ensures most { result ≤ 2 ^ 32 }
+/// Whether a register's read at a position asks for no more looking.
+fn is_settled(
+    alloc: Global,
+    ops: &[LinedOp],
+    cover: &Cover,
+    i: usize,
+    r: Reg,
+) -> Result<bool, NoMemory>
+    requires { IsCover ops.now cover.now }
+    ensures yes { IfOk result (λ b. b ≡ true → IsSettled ops.now i r) }
+    ensures no { IfOk result (λ b. b ≡ false → AreWrittenFirst ops.now → ⊥) }
 {
-    match op {
-        MidOp::Copy { from, .. } => above(from),
-        MidOp::Both { left, right, .. } | MidOp::Divide { left, right, .. } => {
-            above(left).max(above(right))
-        },
-        MidOp::Runtime {
-            first,
-            second,
-            third,
-            fourth,
-            ..
-        } => above_this(first)
-            .max(above_this(second))
-            .max(above_this(third).max(above_this(fourth))),
-        MidOp::Unless { test, .. } => above(test),
-        MidOp::Const { .. } | MidOp::Skip { .. } | MidOp::Back { .. } => 0,
+    if is_covered(ops, cover, i, r) {
+        return Ok(true);
     }
+    is_written_first(alloc, ops, r)
 }
 
-/// The number after a register's.
-fn above(r: Reg) -> u64
-    ensures above { result ≡ number_of r + 1 }
-    ensures most { result ≤ 2 ^ 32 }
-{
-    match r {
-        Reg::Temp { number } | Reg::Var { number } | Reg::Place { number } => u64::from(number) + 1,
-    }
-}
-
-/// The number after that of a register that may be missing.
-fn above_this(one: Option<Reg>) -> u64
-    ensures above { (r : Reg) → one ≡ Some r → number_of r < result }
-    ensures most { result ≤ 2 ^ 32 }
+/// The same of a register that may be missing.
+fn is_settled_if(
+    alloc: Global,
+    ops: &[LinedOp],
+    cover: &Cover,
+    i: usize,
+    one: Option<Reg>,
+) -> Result<bool, NoMemory>
+    requires { IsCover ops.now cover.now }
+    ensures yes { IfOk result (λ b. b ≡ true → (r : Reg) → one ≡ Some r → IsSettled ops.now i r) }
+    ensures no { IfOk result (λ b. b ≡ false → AreWrittenFirst ops.now → ⊥) }
 {
     match one {
-        Some(r) => above(r),
-        None => 0,
+        None => Ok(true),
+        Some(r) => is_settled(alloc, ops, cover, i, r),
     }
 }
 
-/// A number above those of all registers that are read.
-fn all_below(ops: &[LinedOp]) -> u64
-    ensures below { (i : ℕ) (op : MidOp) → op_in ops.now i ≡ Some op → ReadsBelow result op }
-    ensures most { result ≤ 2 ^ 32 }
+/// The same of two.
+fn are_settled_if(
+    alloc: Global,
+    ops: &[LinedOp],
+    cover: &Cover,
+    i: usize,
+    one: Option<Reg>,
+    other: Option<Reg>,
+) -> Result<bool, NoMemory>
+    requires { IsCover ops.now cover.now }
+    ensures yes { IfOk result (λ b. b ≡ true → (r : Reg) → (one ≡ Some r) ⊎ (other ≡ Some r) → IsSettled ops.now i r) }
+    ensures no { IfOk result (λ b. b ≡ false → AreWrittenFirst ops.now → ⊥) }
 {
-    let mut most = 0;
-    for i in 0..ops.len() {
-        most = reads_below(ops[i].op).max(most);
+    if !is_settled_if(alloc, ops, cover, i, one)? {
+        return Ok(false);
     }
-    most
+    is_settled_if(alloc, ops, cover, i, other)
 }
 
-/// Whether the registers of a number are written before they are read on every path.
-fn are_written_first(alloc: Global, ops: &[LinedOp], number: u32) -> Result<bool, NoMemory>
-    ensures { IfOk result (λ b. IsTrue b ↔ AreNumbered ops.now number) }
+/// The same of all registers that the operation at the position reads.
+fn are_settled(alloc: Global, ops: &[LinedOp], cover: &Cover, i: usize) -> Result<bool, NoMemory>
+    requires cover { IsCover ops.now cover.now }
+    requires within { i < length ops.now }
+    ensures yes { IfOk result (λ b. b ≡ true → AreSettled ops.now i) }
+    ensures no { IfOk result (λ b. b ≡ false → AreWrittenFirst ops.now → ⊥) }
 {
-    let temp = is_written_first(alloc, ops, Reg::Temp { number })?;
-    let var = is_written_first(alloc, ops, Reg::Var { number })?;
-    let place = is_written_first(alloc, ops, Reg::Place { number })?;
-    Ok(temp && var && place)
+    let four = reads_at(ops[i].op);
+    if !are_settled_if(alloc, ops, cover, i, four.first, four.second)? {
+        return Ok(false);
+    }
+    are_settled_if(alloc, ops, cover, i, four.third, four.fourth)
 }
 
 /// Whether all registers are written before they are read on every path. The error is want of memory.
+///
+/// A register that is read behind a write that no path passes by takes no search.
 pub fn all_written_first(alloc: Global, ops: &[LinedOp]) -> Result<bool, NoMemory>
     ensures { IfOk result (λ b. IsTrue b ↔ AreWrittenFirst ops.now) }
 {
-    for number in 0..all_below(ops) {
-        if !are_written_first(alloc, ops, number as u32)? {
+    let mut cover = cover_of(alloc, ops)?;
+    for i in 0..ops.len() {
+        if !are_settled(alloc, ops, &cover, i)? {
             return Ok(false);
         }
+        note_write(ops, &mut cover, i);
     }
     Ok(true)
 }

@@ -4,8 +4,6 @@
 mod names;
 mod scopes;
 mod sym;
-#[cfg(test)]
-mod tests;
 
 pub use scopes::Scopes;
 pub use sym::{AddErr, Sym};

@@ -6,8 +6,6 @@ mod choosing;
 mod cost;
 pub mod laws;
 mod sig;
-#[cfg(test)]
-mod tests;
 
 pub use answer::Pick;
 pub use choosing::pick;

@@ -2,7 +2,7 @@
 use Rattle.std.proofs.Common.{◌≡◌, ◌≤◌, ℕ, ◌+◌, ◌-◌, List, length, drop, Result, Ok, Err, ap, ◌∙◌, subst, arith, length-append, length-drop}
 use Rattle.fb_lexer.specs.declared.token.Token.{Token}
 use Rattle.fb_ast.specs.declared.expr.Expr.{Expr}
-use Rattle.parse_expr.specs.declared.stop.ParseErr.{ParseErr}
+use Rattle.parse_expr.specs.declared.error.ParseErr.{ParseErr}
 use Rattle.parse_expr.specs.Reading.{Outcome}
 use Rattle.parse_expr.specs.Expr.{Measured, expr, told, expr_at}
 use Rattle.parse_expr.specs.Grammar.{Stands, Expression, Is}

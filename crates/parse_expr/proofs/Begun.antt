@@ -18,22 +18,22 @@ use Rattle.parse_expr.specs.declared.kinds.OperandWord.{OperandWord}
 use Rattle.parse_expr.specs.declared.kinds.OperandWord.TheVariants as begins_word
 use Rattle.parse_expr.specs.Words.{prefix_of, operand_word}
 use Rattle.parse_expr.specs.Reading.{first, next, refusal, Outcome, Reader}
-use Rattle.parse_expr.specs.Rows.{Row, Start, Leaf, Inner, Nothing, start_of, word_start, mark_start, suffix_row, begins_some}
-use Rattle.parse_expr.specs.Expr.{Measured, expr, read_row, started, primary, suffix_at, suffix_by, suffixed, suffixes_from, suffixes, prefixed, operand, operand_by, operated, climb_by, climb_from, climb, level, operator_at, begins, begins_as, no_room}
-use Rattle.parse_expr.specs.Grammar.{row_of, Expression, Is, primary as a_primary, suffix as a_suffix, prefix as a_prefix, binary as a_binary}
+use Rattle.parse_expr.specs.Productions.{Production, Start, Leaf, Inner, Nothing, start_of, word_start, mark_start, suffix_production, begins_some}
+use Rattle.parse_expr.specs.Expr.{Measured, expr, read_production, started, primary, suffix_at, suffix_by, suffixed, suffixes_from, suffixes, prefixed, operand, operand_by, operated, climb_by, climb_from, climb, level, operator_at, begins, begins_as, no_room}
+use Rattle.parse_expr.specs.Grammar.{production_of, Expression, Is, primary as a_primary, suffix as a_suffix, prefix as a_prefix, binary as a_binary}
 use Rattle.parse_expr.proofs.Sound.{by_test, joined}
 use Rattle.parse_expr.proofs.Levels.{lower, small, prefix_small, lt_not, Comes, comes}
 use Rattle.parse_expr.proofs.Climbs.{right, goes_on, OperandRead, LeftRead, Operand, primary_sound, suffixed_sound, operated_sound, operand_sound}
 use Rattle.parse_expr.proofs.Depths.{positive}
 use Rattle.parse_expr.proofs.Refused.{prefix_plain, binary_plain, suffix_plain, start_plain}
 use Rattle.parse_expr.proofs.Fills.{Failed, failed_then, map_failed, failed_pure, Fills, full, joined_fills, FaultOf, at_once, extend, refused}
-use Rattle.parse_expr.proofs.Rowed.{here, a_number, number_is, OfDepth, Whole, RowFilled, Flat, row_fills, NoRoom, PartFaults, row_fault, not_zero}
+use Rattle.parse_expr.proofs.Completed.{here, a_number, number_is, OfDepth, Whole, ProductionFilled, Flat, production_fills, NoRoom, PartFaults, production_fault, not_zero}
 
--- ---- the rows of operands and suffixes
+-- ---- the productions of operands and suffixes
 
 abbrev StartFlat : Start → Type 0
-StartFlat (Leaf row) = Flat row
-StartFlat (Inner row) = Unit {0}
+StartFlat (Leaf production) = Flat production
+StartFlat (Inner production) = Unit {0}
 StartFlat Nothing = Unit {0}
 
 word_flat : (at : Span) (word : OperandWord) → StartFlat (word_start at word)
@@ -74,21 +74,21 @@ operand_refused : (room level : ℕ) → level ≤ 15 → (ts : List Token) → 
 operand_refused room level low ts = refused ⊥ (Whole (suc room) level) (inl (number_fills (suc room) level 0 low (omega arith))) a_number (inl (0, refl)) (number_stands (suc room) level 2 low (omega arith)) ts
 
 -- a production from its first token on
-begun_row : (most : ℕ) (t : Token) (row : Row) (level over : ℕ) → prefix_of t.kind ≡ None → row_of (start_of t.at t.kind) ≡ Some row → level ≤ 15
-    → (xs : List Token) → RowFilled most row 0 over xs → Fills (Whole (suc most) level) over (t ∷ xs)
-begun_row most t row level over none begins low xs p =
+begun_production : (most : ℕ) (t : Token) (production : Production) (level over : ℕ) → prefix_of t.kind ≡ None → production_of (start_of t.at t.kind) ≡ Some production → level ≤ 15
+    → (xs : List Token) → ProductionFilled most production 0 over xs → Fills (Whole (suc most) level) over (t ∷ xs)
+begun_production most t production level over none begins low xs p =
     let small = p.within in
-    full (Whole (suc most) level) over (t ∷ xs) (record { depth = p.depth; tree = p.tree; within = omega arith; are = a_primary t row xs level p.depth p.tree none begins low p.are })
+    full (Whole (suc most) level) over (t ∷ xs) (record { depth = p.depth; tree = p.tree; within = omega arith; are = a_primary t production xs level p.depth p.tree none begins low p.are })
 
 -- a production from its first token on, with any parts
-pub record RowStands (t : Token) (level most : ℕ) : Type 0 where
+pub record ProductionStands (t : Token) (level most : ℕ) : Type 0 where
   pub more : List Token
   pub whole : OfDepth level most (t ∷ more)
 
-row_stands : (most : ℕ) (t : Token) (row : Row) (level : ℕ) → 1 ≤ most → prefix_of t.kind ≡ None → row_of (start_of t.at t.kind) ≡ Some row → level ≤ 15 → RowStands t level (suc most)
-row_stands most t row level some none begins low =
-    let r = row_fills most row 0 (omega arith) (inl some) in
-    record { more = r.more; whole = record { depth = r.whole.depth; tree = r.whole.tree; within = r.whole.within; are = a_primary t row r.more level r.whole.depth r.whole.tree none begins low r.whole.are } }
+production_stands : (most : ℕ) (t : Token) (production : Production) (level : ℕ) → 1 ≤ most → prefix_of t.kind ≡ None → production_of (start_of t.at t.kind) ≡ Some production → level ≤ 15 → ProductionStands t level (suc most)
+production_stands most t production level some none begins low =
+    let r = production_fills most production 0 (omega arith) (inl some) in
+    record { more = r.more; whole = record { depth = r.whole.depth; tree = r.whole.tree; within = r.whole.within; are = a_primary t production r.more level r.whole.depth r.whole.tree none begins low r.whole.are } }
 
 widen : {level most : ℕ} {ts : List Token} (more : ℕ) → most ≤ more → OfDepth level most ts → OfDepth level more ts
 widen more less p = let small = p.within in record { depth = p.depth; tree = p.tree; within = omega arith; are = p.are }
@@ -111,25 +111,25 @@ weaker room m least low over xs p = full (Whole room least) over xs (record { de
 module _ (room : ℕ) (claims : PartFaults room) where
   -- ---- operands
 
-  begun_fault : (t : Token) (ts : List Token) (row : Row) → prefix_of t.kind ≡ None → row_of (start_of t.at t.kind) ≡ Some row → (1 ≤ room) ⊎ Flat row
-      → Failed (FaultOf ⊥ (Whole (suc room) 15) (t ∷ ts)) (read_row (expr room) room 0 row ts)
-  begun_fault t ts row none begins fit =
-      map_failed (FaultOf ⊥ (RowFilled room row 0) ts) (FaultOf ⊥ (Whole (suc room) 15) (t ∷ ts)) (read_row (expr room) room 0 row ts) (row_fault room claims row 0 ts (omega arith) fit)
-      (extend (RowFilled room row 0) (Whole (suc room) 15) (t ∷ []) (λ over xs p. begun_row room t row 15 over none begins (omega arith) xs p) ⊥ ⊥ ts (t ∷ ts) refl (λ never. absurd never))
+  begun_fault : (t : Token) (ts : List Token) (production : Production) → prefix_of t.kind ≡ None → production_of (start_of t.at t.kind) ≡ Some production → (1 ≤ room) ⊎ Flat production
+      → Failed (FaultOf ⊥ (Whole (suc room) 15) (t ∷ ts)) (read_production (expr room) room 0 production ts)
+  begun_fault t ts production none begins fit =
+      map_failed (FaultOf ⊥ (ProductionFilled room production 0) ts) (FaultOf ⊥ (Whole (suc room) 15) (t ∷ ts)) (read_production (expr room) room 0 production ts) (production_fault room claims production 0 ts (omega arith) fit)
+      (extend (ProductionFilled room production 0) (Whole (suc room) 15) (t ∷ []) (λ over xs p. begun_production room t production 15 over none begins (omega arith) xs p) ⊥ ⊥ ts (t ∷ ts) refl (λ never. absurd never))
 
-  too_deep_start : (t : Token) (ts : List Token) (row : Row) → prefix_of t.kind ≡ None → row_of (start_of t.at t.kind) ≡ Some row → FaultOf ⊥ (Whole (suc room) 15) (t ∷ ts) DeepNesting (t ∷ ts)
-  too_deep_start t ts row none begins =
-      let r = row_stands (room + 2) t row 15 (omega arith) none begins (omega arith) in
+  too_deep_start : (t : Token) (ts : List Token) (production : Production) → prefix_of t.kind ≡ None → production_of (start_of t.at t.kind) ≡ Some production → FaultOf ⊥ (Whole (suc room) 15) (t ∷ ts) DeepNesting (t ∷ ts)
+  too_deep_start t ts production none begins =
+      let r = production_stands (room + 2) t production 15 (omega arith) none begins (omega arith) in
       at_once ⊥ (Whole (suc room) 15) (t ∷ ts) DeepNesting (inl (number_fills (suc room) 15 0 (omega arith) (omega arith)))
-      (record { token = t; behind = ts; is = refl; plain = start_plain t.at t.kind row begins; fills = record { more = r.more; are = widen (suc room + 2) (omega arith) r.whole } })
+      (record { token = t; behind = ts; is = refl; plain = start_plain t.at t.kind production begins; fills = record { more = r.more; are = widen (suc room + 2) (omega arith) r.whole } })
 
   started_fault : (t : Token) (ts : List Token) (start : Start) → prefix_of t.kind ≡ None → start_of t.at t.kind ≡ start → StartFlat start
       → Failed (FaultOf ⊥ (Whole (suc room) 15) (t ∷ ts)) (started (expr room) room start (t ∷ ts))
   unfolding next
-  started_fault t ts (Leaf row) none begins flat = begun_fault t ts row none (ap row_of begins) (inr flat)
-  started_fault t ts (Inner row) none begins flat =
+  started_fault t ts (Leaf production) none begins flat = begun_fault t ts production none (ap production_of begins) (inr flat)
+  started_fault t ts (Inner production) none begins flat =
       let P : Reader Measured → Type 0 = λ p. Failed (FaultOf ⊥ (Whole (suc room) 15) (t ∷ ts)) (p (t ∷ ts)) in
-      by_test P (room == 0) _ _ (λ none_left. too_deep_start t ts row none (ap row_of begins)) (λ some. begun_fault t ts row none (ap row_of begins) (inl (not_zero room some)))
+      by_test P (room == 0) _ _ (λ none_left. too_deep_start t ts production none (ap production_of begins)) (λ some. begun_fault t ts production none (ap production_of begins) (inl (not_zero room some)))
   started_fault t ts Nothing none begins flat = operand_refused room 15 (omega arith) (t ∷ ts)
 
   primary_fault : (t : Token) (ts : List Token) → prefix_of t.kind ≡ None → Failed (FaultOf ⊥ (Whole (suc room) 15) (t ∷ ts)) (primary (expr room) room t (t ∷ ts))
@@ -138,7 +138,7 @@ module _ (room : ℕ) (claims : PartFaults room) where
 
   module _ (all ts : List Token) (x : Measured) (r : OperandRead room all x ts) (kind : Suffix) (at : suffix_at (first ts) ≡ Some kind) where
     -- what goes on with an operand, completed
-    suffix_in : (t : Token) → suffix_at (Some t) ≡ Some kind → (over : ℕ) (xs : List Token) → RowFilled room (suffix_row x.0 kind) x.1 over xs → Fills (Whole (suc room) 15) over ((r.front ++ t ∷ []) ++ xs)
+    suffix_in : (t : Token) → suffix_at (Some t) ≡ Some kind → (over : ℕ) (xs : List Token) → ProductionFilled room (suffix_production x.0 kind) x.1 over xs → Fills (Whole (suc room) 15) over ((r.front ++ t ∷ []) ++ xs)
     suffix_in t sees over xs p =
         let small = p.within in
         let made = a_suffix r.front t xs kind x.0 x.1 15 p.depth p.tree sees (r.goes kind at) (omega arith) r.are p.are in
@@ -149,7 +149,7 @@ module _ (room : ℕ) (claims : PartFaults room) where
     too_deep_suffix =
         let g = goes_on ts kind at in
         let small = r.within in
-        let more = row_fills (room + 2) (suffix_row x.0 kind) x.1 (omega arith) (inl (omega arith)) in
+        let more = production_fills (room + 2) (suffix_production x.0 kind) x.1 (omega arith) (inl (omega arith)) in
         let made = suffix_in g.token g.kind_is 2 more.more more.whole in
         record {
           front = r.front;
@@ -164,9 +164,9 @@ module _ (room : ℕ) (claims : PartFaults room) where
         let P : Reader Measured → Type 0 = λ p. Failed (FaultOf ⊥ (Whole (suc room) 15) all) (p ts) in
         by_test P (nat_lt room x.1) _ _ (λ is. too_deep_suffix)
         (λ fits. let fewer = lt_not room x.1 fits in let some = positive r.are in
-        map_failed (FaultOf ⊥ (RowFilled room (suffix_row x.0 kind) x.1) (next ts)) (FaultOf ⊥ (Whole (suc room) 15) all) (read_row (expr room) room x.1 (suffix_row x.0 kind) (next ts))
-        (row_fault room claims (suffix_row x.0 kind) x.1 (next ts) fewer (inl (omega arith)))
-        (extend (RowFilled room (suffix_row x.0 kind) x.1) (Whole (suc room) 15) (r.front ++ g.token ∷ []) (suffix_in g.token g.kind_is) ⊥ ⊥ (next ts) all (joined all r.front ts g.token (next ts) [] (next ts) r.is g.is refl) (λ never. absurd never)))
+        map_failed (FaultOf ⊥ (ProductionFilled room (suffix_production x.0 kind) x.1) (next ts)) (FaultOf ⊥ (Whole (suc room) 15) all) (read_production (expr room) room x.1 (suffix_production x.0 kind) (next ts))
+        (production_fault room claims (suffix_production x.0 kind) x.1 (next ts) fewer (inl (omega arith)))
+        (extend (ProductionFilled room (suffix_production x.0 kind) x.1) (Whole (suc room) 15) (r.front ++ g.token ∷ []) (suffix_in g.token g.kind_is) ⊥ ⊥ (next ts) all (joined all r.front ts g.token (next ts) [] (next ts) r.is g.is refl) (λ never. absurd never)))
 
   suffix_step : (n : ℕ) (x : Measured) (all ts : List Token) (o : Option Suffix) → OperandRead room all x ts → suffix_at (first ts) ≡ o
       → ((y : Measured) (rest : List Token) → OperandRead room all y rest → Failed (FaultOf ⊥ (Whole (suc room) 15) all) (suffixes_from (expr room) room n y rest))
@@ -297,23 +297,23 @@ start_opened a b (kinds.Word word) = word_opened a b (operand_word word)
 start_opened a b kinds.Colon = refl
 start_opened a b kinds.LineEnd = refl
 
-pub record HasRow (start : Start) : Type 0 where
-  pub row : Row
-  pub is : row_of start ≡ Some row
+pub record HasProduction (start : Start) : Type 0 where
+  pub production : Production
+  pub is : production_of start ≡ Some production
 
-has_row : (start : Start) → begins_some start ≡ true → HasRow start
-has_row (Leaf row) is = record { row = row; is = refl }
-has_row (Inner row) is = record { row = row; is = refl }
-has_row Nothing is = cc
+has_production : (start : Start) → begins_some start ≡ true → HasProduction start
+has_production (Leaf production) is = record { production = production; is = refl }
+has_production (Inner production) is = record { production = production; is = refl }
+has_production Nothing is = cc
 
 begun_deep_by : (least : ℕ) (t : Token) (ts : List Token) (o : Option (Unary × ℕ)) → least ≤ 15 → prefix_of t.kind ≡ o → begins_as least t o ≡ true → FaultOf (NoRoom 0) (Whole 0 least) (t ∷ ts) DeepNesting (t ∷ ts)
 begun_deep_by least t ts (Some p) low kind is =
     let high : least ≤ p.1 = grind (arith, nat_tests) in
     at_once (NoRoom 0) (Whole 0 least) (t ∷ ts) DeepNesting (inr refl) (record { token = t; behind = ts; is = refl; plain = prefix_plain t.kind p kind; fills = prefix_number 0 t p least 2 kind high (omega arith) })
 begun_deep_by least t ts None low kind is =
-    let h = has_row (start_of t.at t.kind) (start_opened t.at here t.kind ∙ is) in
-    let r = row_stands 1 t h.row least (omega arith) kind h.is low in
-    at_once (NoRoom 0) (Whole 0 least) (t ∷ ts) DeepNesting (inr refl) (record { token = t; behind = ts; is = refl; plain = start_plain t.at t.kind h.row h.is; fills = record { more = r.more; are = widen 2 (omega arith) r.whole } })
+    let h = has_production (start_of t.at t.kind) (start_opened t.at here t.kind ∙ is) in
+    let r = production_stands 1 t h.production least (omega arith) kind h.is low in
+    at_once (NoRoom 0) (Whole 0 least) (t ∷ ts) DeepNesting (inr refl) (record { token = t; behind = ts; is = refl; plain = start_plain t.at t.kind h.production h.is; fills = record { more = r.more; are = widen 2 (omega arith) r.whole } })
 
 begun_deep : (least : ℕ) → least ≤ 15 → (ts : List Token) → begins least (first ts) ≡ true → FaultOf (NoRoom 0) (Whole 0 least) ts DeepNesting ts
 unfolding first

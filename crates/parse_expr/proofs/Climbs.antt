@@ -21,10 +21,10 @@ use Rattle.parse_expr.specs.declared.kinds.OperandWord.TheVariants as begins_wor
 use Rattle.parse_expr.specs.Words.{suffix_of, suffix_mark, prefix_of, operand_word}
 use Rattle.parse_expr.specs.Reading.{first, next, same_mark, is_mark, sees, expect, Outcome, Reader}
 use Rattle.parse_expr.specs.Types.{type_name, name}
-use Rattle.parse_expr.specs.Rows.{Row, gives, mark, typed, named, part, arguments, choice, Start, Leaf, Inner, Nothing, start_of, word_start, mark_start, suffix_row}
-use Rattle.parse_expr.specs.Expr.{Measured, expr, part_in, arguments_in, read_row, opens, started, primary, suffix_at, suffix_by, suffixed, suffixes_from, suffixes, prefixed, operand, operand_by, operated, climb_by, climb_from, climb, level, no_room, operator_at, begins}
-use Rattle.parse_expr.specs.Grammar.{row_of, may_follow, may_follow_new, Expression, Is, primary as a_primary, suffix as a_suffix, prefix as a_prefix, binary as a_binary}
-use Rattle.parse_expr.proofs.Sound.{Done, bind, by_test, map_done, joined, IsRead, Right, RowRead, row_sound}
+use Rattle.parse_expr.specs.Productions.{Production, gives, mark, typed, named, part, arguments, choice, Start, Leaf, Inner, Nothing, start_of, word_start, mark_start, suffix_production}
+use Rattle.parse_expr.specs.Expr.{Measured, expr, part_in, arguments_in, read_production, opens, started, primary, suffix_at, suffix_by, suffixed, suffixes_from, suffixes, prefixed, operand, operand_by, operated, climb_by, climb_from, climb, level, no_room, operator_at, begins}
+use Rattle.parse_expr.specs.Grammar.{production_of, may_follow, may_follow_new, Expression, Is, primary as a_primary, suffix as a_suffix, prefix as a_prefix, binary as a_binary}
+use Rattle.parse_expr.proofs.Sound.{Done, bind, by_test, map_done, joined, IsRead, Right, ProductionRead, production_sound}
 use Rattle.parse_expr.proofs.Levels.{lower, small, prefix_small, AtMost, always, lt_not, ends_below, Comes, comes}
 
 -- ---- what may follow a tree
@@ -32,14 +32,14 @@ use Rattle.parse_expr.proofs.Levels.{lower, small, prefix_small, AtMost, always,
 abbrev pub MayGo : Expr → List Token → Type 0
 MayGo tree ts = (kind : Suffix) → suffix_at (first ts) ≡ Some kind → may_follow tree kind ≡ true
 
--- where a row is over, its tree may be followed by what comes next
-abbrev pub Lasts : Row → List Token → Type 0
+-- where a production is over, its tree may be followed by what comes next
+abbrev pub Lasts : Production → List Token → Type 0
 Lasts (gives tree) ts = MayGo tree ts
-Lasts (mark which row) ts = (more : List Token) → Lasts row more
-Lasts (typed row) ts = (ty : TypeName) (more : List Token) → Lasts (row ty) more
-Lasts (named row) ts = (name : Name) (more : List Token) → Lasts (row name) more
-Lasts (part row) ts = (inner : Expr) (more : List Token) → Lasts (row inner) more
-Lasts (arguments row) ts = (all : List Expr) (more : List Token) → Lasts (row all) more
+Lasts (mark which production) ts = (more : List Token) → Lasts production more
+Lasts (typed production) ts = (ty : TypeName) (more : List Token) → Lasts (production ty) more
+Lasts (named production) ts = (name : Name) (more : List Token) → Lasts (production name) more
+Lasts (part production) ts = (inner : Expr) (more : List Token) → Lasts (production inner) more
+Lasts (arguments production) ts = (all : List Expr) (more : List Token) → Lasts (production all) more
 Lasts (choice which one other) ts = ((more : List Token) → Lasts one more) × (sees which ts ≡ false → Lasts other ts)
 
 any : {A : Type 0} (o : Outcome A) → Done (λ (a : A) (rest : List Token). Unit {0}) o
@@ -50,18 +50,18 @@ module _ (room : ℕ) where
   abbrev After : Measured → List Token → Type 0
   After x rest = MayGo x.0 rest
 
-  pub lasts : (row : Row) (deepest : ℕ) (ts : List Token) → Lasts row ts → Done After (read_row (expr room) room deepest row ts)
+  pub lasts : (production : Production) (deepest : ℕ) (ts : List Token) → Lasts production ts → Done After (read_production (expr room) room deepest production ts)
   lasts (gives tree) deepest ts l = l
-  lasts (mark which row) deepest ts l =
-      bind (λ (u : Unit {0}) (rest : List Token). Unit {0}) After (expect which ts) _ (any (expect which ts)) (λ u rest s. lasts row deepest rest (l rest))
-  lasts (typed row) deepest ts l =
-      bind (λ (ty : TypeName) (rest : List Token). Unit {0}) After (type_name ts) _ (any (type_name ts)) (λ ty rest s. lasts (row ty) deepest rest (l ty rest))
-  lasts (named row) deepest ts l =
-      bind (λ (n : Name) (rest : List Token). Unit {0}) After (name ts) _ (any (name ts)) (λ n rest s. lasts (row n) deepest rest (l n rest))
-  lasts (part row) deepest ts l =
-      bind (λ (x : Measured) (rest : List Token). Unit {0}) After (part_in (expr room) room deepest ts) _ (any (part_in (expr room) room deepest ts)) (λ x rest s. lasts (row x.0) x.1 rest (l x.0 rest))
-  lasts (arguments row) deepest ts l =
-      bind (λ (x : List Expr × ℕ) (rest : List Token). Unit {0}) After (arguments_in (expr room) room deepest ts) _ (any (arguments_in (expr room) room deepest ts)) (λ x rest s. lasts (row x.0) x.1 rest (l x.0 rest))
+  lasts (mark which production) deepest ts l =
+      bind (λ (u : Unit {0}) (rest : List Token). Unit {0}) After (expect which ts) _ (any (expect which ts)) (λ u rest s. lasts production deepest rest (l rest))
+  lasts (typed production) deepest ts l =
+      bind (λ (ty : TypeName) (rest : List Token). Unit {0}) After (type_name ts) _ (any (type_name ts)) (λ ty rest s. lasts (production ty) deepest rest (l ty rest))
+  lasts (named production) deepest ts l =
+      bind (λ (n : Name) (rest : List Token). Unit {0}) After (name ts) _ (any (name ts)) (λ n rest s. lasts (production n) deepest rest (l n rest))
+  lasts (part production) deepest ts l =
+      bind (λ (x : Measured) (rest : List Token). Unit {0}) After (part_in (expr room) room deepest ts) _ (any (part_in (expr room) room deepest ts)) (λ x rest s. lasts (production x.0) x.1 rest (l x.0 rest))
+  lasts (arguments production) deepest ts l =
+      bind (λ (x : List Expr × ℕ) (rest : List Token). Unit {0}) After (arguments_in (expr room) room deepest ts) _ (any (arguments_in (expr room) room deepest ts)) (λ x rest s. lasts (production x.0) x.1 rest (l x.0 rest))
   lasts (choice which one other) deepest ts l =
       let P : Outcome Measured → Type 0 = λ o. Done After o in
       by_test P (sees which ts) _ _
@@ -98,8 +98,8 @@ new_goes at ty (t ∷ ts) a b kind is =
     search (rules, the_lemmas, may)
 
 abbrev pub StartLasts : Start → Type 0
-StartLasts (Leaf row) = (ts : List Token) → Lasts row ts
-StartLasts (Inner row) = (ts : List Token) → Lasts row ts
+StartLasts (Leaf production) = (ts : List Token) → Lasts production ts
+StartLasts (Inner production) = (ts : List Token) → Lasts production ts
 StartLasts Nothing = Unit {0}
 
 word_lasts : (at : Span) (word : OperandWord) → StartLasts (word_start at word)
@@ -127,7 +127,7 @@ start_lasts at (kinds.Word word) = word_lasts at (operand_word word)
 start_lasts at kinds.Colon = tt
 start_lasts at kinds.LineEnd = tt
 
-suffix_lasts : (left : Expr) (kind : Suffix) (ts : List Token) → Lasts (suffix_row left kind) ts
+suffix_lasts : (left : Expr) (kind : Suffix) (ts : List Token) → Lasts (suffix_production left kind) ts
 suffix_lasts left suffix_kinds.Call ts = λ all more kind is. search (rules, the_lemmas)
 suffix_lasts left suffix_kinds.Index ts = λ inner m1 m2 kind is. search (rules, the_lemmas)
 suffix_lasts left suffix_kinds.Field ts = λ name more kind is. search (rules, the_lemmas)
@@ -192,20 +192,20 @@ operated_left room x operator all ts m least l c fits y rest s =
     )
 
 module _ (room : ℕ) (right : Right room) where
-  row_begins : (t : Token) (ts : List Token) (row : Row) → prefix_of t.kind ≡ None → row_of (start_of t.at t.kind) ≡ Some row → ((more : List Token) → Lasts row more)
-      → Done (OperandRead room (t ∷ ts)) (read_row (expr room) room 0 row ts)
-  row_begins t ts row none begins l =
-      map_done (λ x rest. RowRead room row 0 ts x rest × MayGo x.0 rest) (OperandRead room (t ∷ ts)) _
-      (both_done (RowRead room row 0 ts) (λ x rest. MayGo x.0 rest) _ (row_sound room right row 0 ts) (lasts room row 0 ts (l ts)))
-      (λ x rest s. let r = s.0 in record { front = t ∷ r.front; is = ap (λ xs. t ∷ xs) r.is; are = a_primary t row r.front 15 x.1 x.0 none begins (omega arith) r.are; within = r.within (omega arith); goes = s.1 })
+  production_begins : (t : Token) (ts : List Token) (production : Production) → prefix_of t.kind ≡ None → production_of (start_of t.at t.kind) ≡ Some production → ((more : List Token) → Lasts production more)
+      → Done (OperandRead room (t ∷ ts)) (read_production (expr room) room 0 production ts)
+  production_begins t ts production none begins l =
+      map_done (λ x rest. ProductionRead room production 0 ts x rest × MayGo x.0 rest) (OperandRead room (t ∷ ts)) _
+      (both_done (ProductionRead room production 0 ts) (λ x rest. MayGo x.0 rest) _ (production_sound room right production 0 ts) (lasts room production 0 ts (l ts)))
+      (λ x rest s. let r = s.0 in record { front = t ∷ r.front; is = ap (λ xs. t ∷ xs) r.is; are = a_primary t production r.front 15 x.1 x.0 none begins (omega arith) r.are; within = r.within (omega arith); goes = s.1 })
 
   started_sound : (t : Token) (ts : List Token) (start : Start) → prefix_of t.kind ≡ None → start_of t.at t.kind ≡ start → StartLasts start
       → Done (OperandRead room (t ∷ ts)) (started (expr room) room start (t ∷ ts))
   unfolding next
-  started_sound t ts (Leaf row) none begins l = row_begins t ts row none (ap row_of begins) l
-  started_sound t ts (Inner row) none begins l =
+  started_sound t ts (Leaf production) none begins l = production_begins t ts production none (ap production_of begins) l
+  started_sound t ts (Inner production) none begins l =
       let P : Reader Measured → Type 0 = λ p. Done (OperandRead room (t ∷ ts)) (p (t ∷ ts)) in
-      by_test P (room == 0) _ _ (λ none_left. tt) (λ some. row_begins t ts row none (ap row_of begins) l)
+      by_test P (room == 0) _ _ (λ none_left. tt) (λ some. production_begins t ts production none (ap production_of begins) l)
   started_sound t ts Nothing none begins l = tt
 
   pub primary_sound : (t : Token) (ts : List Token) → prefix_of t.kind ≡ None → Done (OperandRead room (t ∷ ts)) (primary (expr room) room t (t ∷ ts))
@@ -216,8 +216,8 @@ module _ (room : ℕ) (right : Right room) where
   suffixed_sound x kind all ts r at =
       let P : Reader Measured → Type 0 = λ p. Done (OperandRead room all) (p ts) in
       by_test P (nat_lt room x.1) _ _ (λ is. tt)
-      (λ fits. map_done (λ y rest. RowRead room (suffix_row x.0 kind) x.1 (next ts) y rest × MayGo y.0 rest) (OperandRead room all) _
-      (both_done (RowRead room (suffix_row x.0 kind) x.1 (next ts)) (λ y rest. MayGo y.0 rest) _ (row_sound room right (suffix_row x.0 kind) x.1 (next ts)) (lasts room (suffix_row x.0 kind) x.1 (next ts) (suffix_lasts x.0 kind (next ts))))
+      (λ fits. map_done (λ y rest. ProductionRead room (suffix_production x.0 kind) x.1 (next ts) y rest × MayGo y.0 rest) (OperandRead room all) _
+      (both_done (ProductionRead room (suffix_production x.0 kind) x.1 (next ts)) (λ y rest. MayGo y.0 rest) _ (production_sound room right (suffix_production x.0 kind) x.1 (next ts)) (lasts room (suffix_production x.0 kind) x.1 (next ts) (suffix_lasts x.0 kind (next ts))))
       (λ y rest s. let g = goes_on ts kind at in let b = s.0 in record {
         front = r.front ++ g.token ∷ b.front;
         is = joined all r.front ts g.token (next ts) b.front rest r.is g.is b.is;

@@ -22,9 +22,9 @@ use Rattle.parse_expr.specs.declared.kinds.Suffix.{Suffix}
 use Rattle.parse_expr.specs.Words.{suffix_of, suffix_mark, prefix_of, binary_of, binary_mark, binary_word, base_of, is_pointer}
 use Rattle.parse_expr.specs.Reading.{first, next, same_mark, is_mark, holds, sees, expect, Outcome, and_then}
 use Rattle.parse_expr.specs.Types.{pointers, behind_pointers, type_name, name}
-use Rattle.parse_expr.specs.Rows.{Row, mark, typed, named, part, arguments, choice, Start, Leaf, Inner, Nothing, start_of, suffix_row}
-use Rattle.parse_expr.specs.Expr.{Measured, expr, part_in, arguments_from, arguments_in, read_row, opens, started, primary, suffix_at, suffixed, suffixes, prefixed, operand, operated, climb, level}
-use Rattle.parse_expr.specs.Grammar.{ArePointers, IsType, written, row_of, may_follow, Piece, Expression, Behind, Arguments, Is, primary as a_primary, suffix as a_suffix, prefix as a_prefix, binary as a_binary, nothing, a_mark, a_type, a_name, a_part, no_arguments, some_arguments, with_choice, without_choice, last_argument, one_argument}
+use Rattle.parse_expr.specs.Productions.{Production, mark, typed, named, part, arguments, choice, Start, Leaf, Inner, Nothing, start_of, suffix_production}
+use Rattle.parse_expr.specs.Expr.{Measured, expr, part_in, arguments_from, arguments_in, read_production, opens, started, primary, suffix_at, suffixed, suffixes, prefixed, operand, operated, climb, level}
+use Rattle.parse_expr.specs.Grammar.{ArePointers, IsType, written, production_of, may_follow, Symbol, Expression, Behind, Arguments, Is, primary as a_primary, suffix as a_suffix, prefix as a_prefix, binary as a_binary, nothing, a_mark, a_type, a_name, a_part, no_arguments, some_arguments, with_choice, without_choice, last_argument, one_argument}
 use Rattle.parse_expr.proofs.Sound.{mark_is}
 use Rattle.parse_expr.proofs.Levels.{small, small_not, prefix_level, prefix_small, coming, AtMost, not_lt, none_comes, some_comes}
 use Rattle.parse_expr.proofs.Climbs.{MayGo}
@@ -133,7 +133,7 @@ binary_ends (kinds.Str text) p is = (refl, refl)
 binary_ends kinds.Colon p is = (refl, refl)
 binary_ends kinds.LineEnd p is = (refl, refl)
 
--- ---- what is claimed of each piece
+-- ---- what is claimed of each symbol
 
 abbrev pub NoPointer : List Token → Type 0
 NoPointer ts = holds is_pointer (first ts) ≡ false
@@ -144,17 +144,17 @@ pub record ExprClaim (lev depth : ℕ) (tree : Expr) (ts : List Token) : Type 0 
   pub alone : 15 ≤ lev → (room least : ℕ) (rest : List Token) → depth ≤ suc room → MayGo tree rest → NoPointer rest
       → operand (expr room) room least (ts ++ rest) ≡ suffixes (expr room) room (tree, depth) rest
 
-abbrev pub RowClaim : Row → ℕ → ℕ → Expr → List Token → Type 0
-RowClaim row deepest depth tree ts = (room : ℕ) (rest : List Token) → depth ≤ suc room → Passes row → MayGo tree rest → NoPointer rest
-    → read_row (expr room) room deepest row (ts ++ rest) ≡ Ok ((tree, depth), rest)
+abbrev pub ProductionClaim : Production → ℕ → ℕ → Expr → List Token → Type 0
+ProductionClaim production deepest depth tree ts = (room : ℕ) (rest : List Token) → depth ≤ suc room → Passes production → MayGo tree rest → NoPointer rest
+    → read_production (expr room) room deepest production (ts ++ rest) ≡ Ok ((tree, depth), rest)
 
 abbrev pub ArgumentsClaim : ℕ → ℕ → List Expr → List Token → Type 0
 ArgumentsClaim deepest deeper all ts = (room n : ℕ) (found : List Expr) (rest : List Token) → deeper ≤ room → length (ts ++ rest) ≤ n
     → arguments_from (expr room) room n found deepest (ts ++ rest) ≡ Ok ((found ++ all, deeper), rest)
 
-abbrev pub Claim : Piece → List Token → Type 0
+abbrev pub Claim : Symbol → List Token → Type 0
 Claim (Expression lev depth tree) ts = ExprClaim lev depth tree ts
-Claim (Behind row deepest depth tree) ts = RowClaim row deepest depth tree ts
+Claim (Behind production deepest depth tree) ts = ProductionClaim production deepest depth tree ts
 Claim (Arguments deepest deeper all) ts = ArgumentsClaim deepest deeper all ts
 
 -- ---- parts
@@ -175,11 +175,11 @@ part_at (suc room) inner d deepest front more some claim fits s =
 -- ---- arguments
 
 -- an expression doesn't begin with a closing parenthesis
-begins_open : (t : Token) (row : Row) → prefix_of t.kind ≡ None → row_of (start_of t.at t.kind) ≡ Some row → (b : Bool) → is_mark Close t.kind ≡ b → b ≡ false
-begins_open t row none begins false is = refl
-begins_open t row none begins true is =
+begins_open : (t : Token) (production : Production) → prefix_of t.kind ≡ None → production_of (start_of t.at t.kind) ≡ Some production → (b : Bool) → is_mark Close t.kind ≡ b → b ≡ false
+begins_open t production none begins false is = refl
+begins_open t production none begins true is =
     let kind : t.kind ≡ kinds.Mark Close = mark_is Close t.kind is in
-    let none_there : row_of (start_of t.at (kinds.Mark Close)) ≡ Some row = subst (λ (k : TokenKind). row_of (start_of t.at k) ≡ Some row) kind begins in
+    let none_there : production_of (start_of t.at (kinds.Mark Close)) ≡ Some production = subst (λ (k : TokenKind). production_of (start_of t.at k) ≡ Some production) kind begins in
     cc
 
 prefix_open : (kind : TokenKind) (p : Unary × ℕ) → prefix_of kind ≡ Some p → (b : Bool) → is_mark Close kind ≡ b → b ≡ false
@@ -191,7 +191,7 @@ prefix_open kind p is true e =
 
 not_closed : {lev depth : ℕ} {tree : Expr} {ts : List Token} → Is (Expression lev depth tree) ts → (rest : List Token) → sees Close (ts ++ rest) ≡ false
 unfolding sees first
-not_closed (a_primary t row ts lev depth tree none begins low r) rest = begins_open t row none begins (is_mark Close t.kind) refl
+not_closed (a_primary t production ts lev depth tree none begins low r) rest = begins_open t production none begins (is_mark Close t.kind) refl
 not_closed (a_suffix front t back kind left d lev depth tree k may low l r) rest = rw (append_assoc front (t ∷ back) rest) (not_closed l (t ∷ (back ++ rest)))
 not_closed (a_prefix t ts operator k d lev operand kind low i) rest = prefix_open t.kind (operator, k) kind (is_mark Close t.kind) refl
 not_closed (a_binary front t back operator k c d lev left right kind low l r) rest = rw (append_assoc front (t ∷ back) rest) (not_closed l (t ∷ (back ++ rest)))
@@ -219,63 +219,63 @@ module _ (room n : ℕ) (found : List Expr) (deepest : ℕ) (inner : Expr) (d : 
       let same : (found ++ inner ∷ []) ++ all ≡ found ++ inner ∷ all = append_assoc found (inner ∷ []) all in
       rw (read, comma) (again ∙ ap (λ (xs : List Expr). Ok ((xs, deeper), rest)) same)
 
--- ---- rows
+-- ---- productions
 
 some_room : (room : ℕ) → 1 ≤ room → (room == 0) ≡ false
 some_room room some = grind (arith, nat_tests)
 
-with_room : (room : ℕ) (deep_row : Bool) (fault o done : Outcome Measured) → (deep_row ≡ true → 1 ≤ room) → o ≡ done → (if deep_row then (if room == 0 then fault else o) else o) ≡ done
+with_room : (room : ℕ) (deep_production : Bool) (fault o done : Outcome Measured) → (deep_production ≡ true → 1 ≤ room) → o ≡ done → (if deep_production then (if room == 0 then fault else o) else o) ≡ done
 with_room zero true fault o done some is = let one : 1 ≤ 0 = some refl in absurd (omega arith)
 with_room (suc room) true fault o done some is = rw (some_room (suc room) (omega arith)) is
 with_room room false fault o done some is = is
 
 module _ (room : ℕ) (rest : List Token) where
-  mark_row : (t : Token) (ts : List Token) (which : Mark) (row : Row) (deepest depth : ℕ) (tree : Expr) → t.kind ≡ kinds.Mark which
-      → read_row (expr room) room deepest row (ts ++ rest) ≡ Ok ((tree, depth), rest)
-      → read_row (expr room) room deepest (mark which row) (t ∷ (ts ++ rest)) ≡ Ok ((tree, depth), rest)
-  mark_row t ts which row deepest depth tree kind again = rw (expect_is which t (ts ++ rest) kind) again
+  mark_production : (t : Token) (ts : List Token) (which : Mark) (production : Production) (deepest depth : ℕ) (tree : Expr) → t.kind ≡ kinds.Mark which
+      → read_production (expr room) room deepest production (ts ++ rest) ≡ Ok ((tree, depth), rest)
+      → read_production (expr room) room deepest (mark which production) (t ∷ (ts ++ rest)) ≡ Ok ((tree, depth), rest)
+  mark_production t ts which production deepest depth tree kind again = rw (expect_is which t (ts ++ rest) kind) again
 
-  type_row : (front back : List Token) (ty : TypeName) (row : TypeName → Row) (deepest depth : ℕ) (tree : Expr) → IsType front ty → NoPointer (back ++ rest)
-      → read_row (expr room) room deepest (row ty) (back ++ rest) ≡ Ok ((tree, depth), rest)
-      → read_row (expr room) room deepest (typed row) ((front ++ back) ++ rest) ≡ Ok ((tree, depth), rest)
-  type_row front back ty row deepest depth tree is none again = rw (append_assoc front back rest, type_is is (back ++ rest) none) again
+  type_production : (front back : List Token) (ty : TypeName) (production : TypeName → Production) (deepest depth : ℕ) (tree : Expr) → IsType front ty → NoPointer (back ++ rest)
+      → read_production (expr room) room deepest (production ty) (back ++ rest) ≡ Ok ((tree, depth), rest)
+      → read_production (expr room) room deepest (typed production) ((front ++ back) ++ rest) ≡ Ok ((tree, depth), rest)
+  type_production front back ty production deepest depth tree is none again = rw (append_assoc front back rest, type_is is (back ++ rest) none) again
 
-  name_row : (t : Token) (ts : List Token) (text : List ℕ) (row : Name → Row) (deepest depth : ℕ) (tree : Expr) → t.kind ≡ kinds.Name text
-      → read_row (expr room) room deepest (row (record { at = t.at; text = text })) (ts ++ rest) ≡ Ok ((tree, depth), rest)
-      → read_row (expr room) room deepest (named row) (t ∷ (ts ++ rest)) ≡ Ok ((tree, depth), rest)
-  name_row t ts text row deepest depth tree kind again = rw (name_is t (ts ++ rest) text kind) again
+  name_production : (t : Token) (ts : List Token) (text : List ℕ) (production : Name → Production) (deepest depth : ℕ) (tree : Expr) → t.kind ≡ kinds.Name text
+      → read_production (expr room) room deepest (production (record { at = t.at; text = text })) (ts ++ rest) ≡ Ok ((tree, depth), rest)
+      → read_production (expr room) room deepest (named production) (t ∷ (ts ++ rest)) ≡ Ok ((tree, depth), rest)
+  name_production t ts text production deepest depth tree kind again = rw (name_is t (ts ++ rest) text kind) again
 
-  part_row : (front back : List Token) (inner : Expr) (row : Expr → Row) (d deepest depth : ℕ) (tree : Expr) → 1 ≤ d → ExprClaim 1 d inner front → d ≤ room → Stopping (back ++ rest)
-      → read_row (expr room) room (max deepest d) (row inner) (back ++ rest) ≡ Ok ((tree, depth), rest)
-      → read_row (expr room) room deepest (part row) ((front ++ back) ++ rest) ≡ Ok ((tree, depth), rest)
-  part_row front back inner row d deepest depth tree some claim fits s again = rw (append_assoc front back rest, part_at room inner d deepest front (back ++ rest) some claim fits s) again
+  part_production : (front back : List Token) (inner : Expr) (production : Expr → Production) (d deepest depth : ℕ) (tree : Expr) → 1 ≤ d → ExprClaim 1 d inner front → d ≤ room → Stopping (back ++ rest)
+      → read_production (expr room) room (max deepest d) (production inner) (back ++ rest) ≡ Ok ((tree, depth), rest)
+      → read_production (expr room) room deepest (part production) ((front ++ back) ++ rest) ≡ Ok ((tree, depth), rest)
+  part_production front back inner production d deepest depth tree some claim fits s again = rw (append_assoc front back rest, part_at room inner d deepest front (back ++ rest) some claim fits s) again
 
-  no_arguments_row : (t : Token) (ts : List Token) (row : List Expr → Row) (deepest depth : ℕ) (tree : Expr) → t.kind ≡ kinds.Mark Close
-      → read_row (expr room) room deepest (row []) (ts ++ rest) ≡ Ok ((tree, depth), rest)
-      → read_row (expr room) room deepest (arguments row) (t ∷ (ts ++ rest)) ≡ Ok ((tree, depth), rest)
+  no_arguments_production : (t : Token) (ts : List Token) (production : List Expr → Production) (deepest depth : ℕ) (tree : Expr) → t.kind ≡ kinds.Mark Close
+      → read_production (expr room) room deepest (production []) (ts ++ rest) ≡ Ok ((tree, depth), rest)
+      → read_production (expr room) room deepest (arguments production) (t ∷ (ts ++ rest)) ≡ Ok ((tree, depth), rest)
   unfolding arguments_in next
-  no_arguments_row t ts row deepest depth tree kind again = rw (sees_it Close t (ts ++ rest) kind) again
+  no_arguments_production t ts production deepest depth tree kind again = rw (sees_it Close t (ts ++ rest) kind) again
 
-  arguments_row : (front back : List Token) (all : List Expr) (row : List Expr → Row) (deepest deeper depth : ℕ) (tree : Expr) → Is (Arguments deepest deeper all) front
+  arguments_production : (front back : List Token) (all : List Expr) (production : List Expr → Production) (deepest deeper depth : ℕ) (tree : Expr) → Is (Arguments deepest deeper all) front
       → ArgumentsClaim deepest deeper all front → deeper ≤ room
-      → read_row (expr room) room deeper (row all) (back ++ rest) ≡ Ok ((tree, depth), rest)
-      → read_row (expr room) room deepest (arguments row) ((front ++ back) ++ rest) ≡ Ok ((tree, depth), rest)
+      → read_production (expr room) room deeper (production all) (back ++ rest) ≡ Ok ((tree, depth), rest)
+      → read_production (expr room) room deepest (arguments production) ((front ++ back) ++ rest) ≡ Ok ((tree, depth), rest)
   unfolding arguments_in
-  arguments_row front back all row deepest deeper depth tree is claim fits again =
+  arguments_production front back all production deepest deeper depth tree is claim fits again =
       let open_ : sees Close (front ++ (back ++ rest)) ≡ false = args_not_closed is (back ++ rest) in
       let read = claim room (length (front ++ (back ++ rest))) [] (back ++ rest) fits (omega arith) in
       rw (append_assoc front back rest, open_, read) again
 
-  choice_row : (t : Token) (ts : List Token) (which : Mark) (one other : Row) (deepest depth : ℕ) (tree : Expr) → t.kind ≡ kinds.Mark which → (opens one ≡ true → 1 ≤ room)
-      → read_row (expr room) room deepest one (ts ++ rest) ≡ Ok ((tree, depth), rest)
-      → read_row (expr room) room deepest (choice which one other) (t ∷ (ts ++ rest)) ≡ Ok ((tree, depth), rest)
+  choice_production : (t : Token) (ts : List Token) (which : Mark) (one other : Production) (deepest depth : ℕ) (tree : Expr) → t.kind ≡ kinds.Mark which → (opens one ≡ true → 1 ≤ room)
+      → read_production (expr room) room deepest one (ts ++ rest) ≡ Ok ((tree, depth), rest)
+      → read_production (expr room) room deepest (choice which one other) (t ∷ (ts ++ rest)) ≡ Ok ((tree, depth), rest)
   unfolding next
-  choice_row t ts which one other deepest depth tree kind room_for again = rw (sees_it which t (ts ++ rest) kind) (with_room room (opens one) _ _ _ room_for again)
+  choice_production t ts which one other deepest depth tree kind room_for again = rw (sees_it which t (ts ++ rest) kind) (with_room room (opens one) _ _ _ room_for again)
 
-  pass_row : (ts : List Token) (which : Mark) (one other : Row) (deepest depth : ℕ) (tree : Expr) → sees which (ts ++ rest) ≡ false
-      → read_row (expr room) room deepest other (ts ++ rest) ≡ Ok ((tree, depth), rest)
-      → read_row (expr room) room deepest (choice which one other) (ts ++ rest) ≡ Ok ((tree, depth), rest)
-  pass_row ts which one other deepest depth tree other_comes again = rw other_comes again
+  pass_production : (ts : List Token) (which : Mark) (one other : Production) (deepest depth : ℕ) (tree : Expr) → sees which (ts ++ rest) ≡ false
+      → read_production (expr room) room deepest other (ts ++ rest) ≡ Ok ((tree, depth), rest)
+      → read_production (expr room) room deepest (choice which one other) (ts ++ rest) ≡ Ok ((tree, depth), rest)
+  pass_production ts which one other deepest depth tree other_comes again = rw other_comes again
 
 -- ---- expressions
 
@@ -292,49 +292,49 @@ whole_by room least all rest x read none = ap (λ (o : Outcome Measured). and_th
 no_suffix : (tree : Expr) (rest : List Token) → suffix_at (first rest) ≡ None → MayGo tree rest
 no_suffix tree rest none kind is = cc
 
-abbrev row_or : Row → Option Row → Row
-row_or other None = other
-row_or other (Some row) = row
+abbrev production_or : Production → Option Production → Production
+production_or other None = other
+production_or other (Some production) = production
 
-started_is : (room depth : ℕ) (tree : Expr) (t : Token) (ts rest : List Token) (row : Row) (o : Start) → row_of o ≡ Some row → StartPasses o → depth ≤ suc room → Is (Behind row 0 depth tree) ts
-    → (Passes row → read_row (expr room) room 0 row (ts ++ rest) ≡ Ok ((tree, depth), rest))
+started_is : (room depth : ℕ) (tree : Expr) (t : Token) (ts rest : List Token) (production : Production) (o : Start) → production_of o ≡ Some production → StartPasses o → depth ≤ suc room → Is (Behind production 0 depth tree) ts
+    → (Passes production → read_production (expr room) room 0 production (ts ++ rest) ≡ Ok ((tree, depth), rest))
     → started (expr room) room o (t ∷ (ts ++ rest)) ≡ Ok ((tree, depth), rest)
 unfolding next
-started_is room depth tree t ts rest row (Leaf r) is passes fits are again =
-    let same : row ≡ r = sym (ap (row_or row) is) in
-    subst (λ (q : Row). read_row (expr room) room 0 q (ts ++ rest) ≡ Ok ((tree, depth), rest)) same (again (subst Passes (sym same) passes))
-started_is zero depth tree t ts rest row (Inner r) is passes fits are again =
-    let same : row ≡ r = sym (ap (row_or row) is) in
+started_is room depth tree t ts rest production (Leaf r) is passes fits are again =
+    let same : production ≡ r = sym (ap (production_or production) is) in
+    subst (λ (q : Production). read_production (expr room) room 0 q (ts ++ rest) ≡ Ok ((tree, depth), rest)) same (again (subst Passes (sym same) passes))
+started_is zero depth tree t ts rest production (Inner r) is passes fits are again =
+    let same : production ≡ r = sym (ap (production_or production) is) in
     let two : 2 ≤ depth = deep (subst Deep (sym same) passes.1) are in
     absurd (omega arith)
-started_is (suc room) depth tree t ts rest row (Inner r) is passes fits are again =
-    let same : row ≡ r = sym (ap (row_or row) is) in
-    rw (some_room (suc room) (omega arith)) (subst (λ (q : Row). read_row (expr (suc room)) (suc room) 0 q (ts ++ rest) ≡ Ok ((tree, depth), rest)) same (again (subst Passes (sym same) passes.0)))
-started_is room depth tree t ts rest row Nothing is passes fits are again = cc
+started_is (suc room) depth tree t ts rest production (Inner r) is passes fits are again =
+    let same : production ≡ r = sym (ap (production_or production) is) in
+    rw (some_room (suc room) (omega arith)) (subst (λ (q : Production). read_production (expr (suc room)) (suc room) 0 q (ts ++ rest) ≡ Ok ((tree, depth), rest)) same (again (subst Passes (sym same) passes.0)))
+started_is room depth tree t ts rest production Nothing is passes fits are again = cc
 
-primary_claim : (t : Token) (row : Row) (ts : List Token) (lev depth : ℕ) (tree : Expr) → prefix_of t.kind ≡ None → row_of (start_of t.at t.kind) ≡ Some row
-    → Is (Behind row 0 depth tree) ts → RowClaim row 0 depth tree ts
+primary_claim : (t : Token) (production : Production) (ts : List Token) (lev depth : ℕ) (tree : Expr) → prefix_of t.kind ≡ None → production_of (start_of t.at t.kind) ≡ Some production
+    → Is (Behind production 0 depth tree) ts → ProductionClaim production 0 depth tree ts
     → (room least : ℕ) (rest : List Token) → depth ≤ suc room → MayGo tree rest → NoPointer rest → operand (expr room) room least (t ∷ (ts ++ rest)) ≡ suffixes (expr room) room (tree, depth) rest
 unfolding operand first primary
-primary_claim t row ts lev depth tree none begins are claim room least rest fits goes pointer =
-    let read = started_is room depth tree t ts rest row (start_of t.at t.kind) begins (start_passes t.at t.kind) fits are (λ passes. claim room rest fits passes goes pointer) in
+primary_claim t production ts lev depth tree none begins are claim room least rest fits goes pointer =
+    let read = started_is room depth tree t ts rest production (start_of t.at t.kind) begins (start_passes t.at t.kind) fits are (λ passes. claim room rest fits passes goes pointer) in
     rw (none, read) refl
 
-suffixed_is : (room d depth : ℕ) (left tree : Expr) (kind : Suffix) (t : Token) (ts rest : List Token) → d ≤ room → read_row (expr room) room d (suffix_row left kind) ts ≡ Ok ((tree, depth), rest)
+suffixed_is : (room d depth : ℕ) (left tree : Expr) (kind : Suffix) (t : Token) (ts rest : List Token) → d ≤ room → read_production (expr room) room d (suffix_production left kind) ts ≡ Ok ((tree, depth), rest)
     → suffixed (expr room) room (left, d) kind (t ∷ ts) ≡ Ok ((tree, depth), rest)
 unfolding next
 suffixed_is room d depth left tree kind t ts rest fits is = let e : nat_lt room d ≡ false = not_lt room d fits in rw e is
 
 suffix_claim : (front : List Token) (t : Token) (back : List Token) (kind : Suffix) (left : Expr) (d depth : ℕ) (tree : Expr) → suffix_of t.kind ≡ Some kind → may_follow left kind ≡ true
-    → Is (Behind (suffix_row left kind) d depth tree) back → ExprClaim 15 d left front → RowClaim (suffix_row left kind) d depth tree back
+    → Is (Behind (suffix_production left kind) d depth tree) back → ExprClaim 15 d left front → ProductionClaim (suffix_production left kind) d depth tree back
     → (room least : ℕ) (rest : List Token) → depth ≤ suc room → MayGo tree rest → NoPointer rest → operand (expr room) room least ((front ++ t ∷ back) ++ rest) ≡ suffixes (expr room) room (tree, depth) rest
 unfolding first
-suffix_claim front t back kind left d depth tree is may are claim row_claim room least rest fits goes pointer =
+suffix_claim front t back kind left d depth tree is may are claim production_claim room least rest fits goes pointer =
     let grown = grows are in
     let follows : MayGo left (t ∷ (back ++ rest)) = λ other at. let same : kind ≡ other = ap (suffix_or kind) (sym is ∙ at) in subst (λ (k : Suffix). may_follow left k ≡ true) same may in
     let one = claim.alone (omega arith) room least (t ∷ (back ++ rest)) (omega arith) follows (suffix_is_mark t.kind kind is) in
-    let row = row_claim room rest fits (suffix_passes left kind) goes pointer in
-    let two = suffixed_is room d depth left tree kind t (back ++ rest) rest (omega arith) row in
+    let production = production_claim room rest fits (suffix_passes left kind) goes pointer in
+    let two = suffixed_is room d depth left tree kind t (back ++ rest) rest (omega arith) production in
     ap (operand (expr room) room least) (append_assoc front (t ∷ back) rest) ∙ one ∙ suffixes_some room (left, d) kind t (back ++ rest) is ∙ ap (λ (o : Outcome Measured). and_then o (suffixes (expr room) room)) two
 
 prefixed_is : (room d k least : ℕ) (operator : Unary) (tree : Expr) (t : Token) (ts rest : List Token) → 1 ≤ room → least ≤ k → prefix_of t.kind ≡ Some (operator, k) → expr room k ts ≡ Ok ((tree, d), rest)
@@ -430,10 +430,10 @@ next_claim room (suc n) found deepest inner d front t back all deeper rest some 
     let less : length (back ++ rest) ≤ n = longer front t back rest n few in
     ap (arguments_from (expr room) room (suc n) found deepest) (append_assoc front (t ∷ back) rest) ∙ next_is room n found deepest inner d front t (back ++ rest) some claim fits all deeper rest kind (again n less)
 
-pub complete : {p : Piece} {ts : List Token} → Is p ts → Claim p ts
-complete (a_primary t row ts lev depth tree none begins low r) =
+pub complete : {p : Symbol} {ts : List Token} → Is p ts → Claim p ts
+complete (a_primary t production ts lev depth tree none begins low r) =
     let claim = complete r in
-    let alone = primary_claim t row ts lev depth tree none begins r claim in
+    let alone = primary_claim t production ts lev depth tree none begins r claim in
     record {
       whole = λ room least rest fits high fourteen suffix pointer most. whole_by room least (t ∷ (ts ++ rest)) rest (tree, depth) (alone room least rest fits (no_suffix tree rest suffix) pointer) suffix;
       alone = λ high. alone;
@@ -453,24 +453,24 @@ complete (a_binary front t back operator k c d lev left right kind low l r) = re
   alone = λ high. let k_small = small t.kind (operator, k) kind in absurd (omega arith);
 }
 complete (nothing deepest tree) = λ room rest fits passes goes pointer. refl
-complete (a_mark t ts which row deepest depth tree kind r) = λ room rest fits passes goes pointer.
-    mark_row room rest t ts which row deepest depth tree kind (complete r room rest fits passes goes pointer)
-complete (a_type front back ty row deepest depth tree is r) = λ room rest fits passes goes pointer.
-    type_row room rest front back ty row deepest depth tree is (unpointed (row ty) deepest depth tree back rest (passes ty).0 r pointer) (complete r room rest fits (passes ty).1 goes pointer)
-complete (a_name t ts text row deepest depth tree kind r) = λ room rest fits passes goes pointer.
-    name_row room rest t ts text row deepest depth tree kind (complete r room rest fits (passes (record { at = t.at; text = text })) goes pointer)
-complete (a_part front back inner row d deepest depth tree i r) = λ room rest fits passes goes pointer.
+complete (a_mark t ts which production deepest depth tree kind r) = λ room rest fits passes goes pointer.
+    mark_production room rest t ts which production deepest depth tree kind (complete r room rest fits passes goes pointer)
+complete (a_type front back ty production deepest depth tree is r) = λ room rest fits passes goes pointer.
+    type_production room rest front back ty production deepest depth tree is (unpointed (production ty) deepest depth tree back rest (passes ty).0 r pointer) (complete r room rest fits (passes ty).1 goes pointer)
+complete (a_name t ts text production deepest depth tree kind r) = λ room rest fits passes goes pointer.
+    name_production room rest t ts text production deepest depth tree kind (complete r room rest fits (passes (record { at = t.at; text = text })) goes pointer)
+complete (a_part front back inner production d deepest depth tree i r) = λ room rest fits passes goes pointer.
     let grown = grows r in
-    part_row room rest front back inner row d deepest depth tree (positive i) (complete i) (omega arith) (stopping_then rest (stopping (row inner) (max deepest d) depth tree back (passes inner).0 r)) (complete r room rest fits (passes inner).1 goes pointer)
-complete (no_arguments t ts row deepest depth tree kind r) = λ room rest fits passes goes pointer.
-    no_arguments_row room rest t ts row deepest depth tree kind (complete r room rest fits (passes []) goes pointer)
-complete (some_arguments front back all row deepest deeper depth tree a r) = λ room rest fits passes goes pointer.
+    part_production room rest front back inner production d deepest depth tree (positive i) (complete i) (omega arith) (stopping_then rest (stopping (production inner) (max deepest d) depth tree back (passes inner).0 r)) (complete r room rest fits (passes inner).1 goes pointer)
+complete (no_arguments t ts production deepest depth tree kind r) = λ room rest fits passes goes pointer.
+    no_arguments_production room rest t ts production deepest depth tree kind (complete r room rest fits (passes []) goes pointer)
+complete (some_arguments front back all production deepest deeper depth tree a r) = λ room rest fits passes goes pointer.
     let grown = grows r in
-    arguments_row room rest front back all row deepest deeper depth tree a (complete a) (omega arith) (complete r room rest fits (passes all) goes pointer)
+    arguments_production room rest front back all production deepest deeper depth tree a (complete a) (omega arith) (complete r room rest fits (passes all) goes pointer)
 complete (with_choice t ts which one other deepest depth tree kind r) = λ room rest fits passes goes pointer.
-    choice_row room rest t ts which one other deepest depth tree kind (λ is. let two = deep (passes.0.inside is) r in omega arith) (complete r room rest fits passes.1 goes pointer)
+    choice_production room rest t ts which one other deepest depth tree kind (λ is. let two = deep (passes.0.inside is) r in omega arith) (complete r room rest fits passes.1 goes pointer)
 complete (without_choice ts which one other deepest depth tree r) = λ room rest fits passes goes pointer.
-    pass_row room rest ts which one other deepest depth tree (passes.0.apart ts deepest depth tree rest r goes) (complete r room rest fits passes.2 goes pointer)
+    pass_production room rest ts which one other deepest depth tree (passes.0.apart ts deepest depth tree rest r goes) (complete r room rest fits passes.2 goes pointer)
 complete (last_argument front t inner d deepest i kind) = λ room n found rest fits few.
     last_claim room n found deepest inner d front t rest (positive i) (complete i) kind fits few
 complete (one_argument front t back inner all d deepest deeper i kind more) = λ room n found rest fits few.

@@ -9,7 +9,7 @@ use Rattle.fb_ast.specs.declared.expr.Expr.TheVariants as e
 use Rattle.fb_ast.specs.Places.{place_of}
 use Rattle.fb_ast.specs.declared.operator.Unary.{Unary}
 use Rattle.parse_expr.specs.declared.kinds.Operator.{Operator}
-use Rattle.parse_expr.specs.declared.stop.Stop.TheVariants as stops
+use Rattle.parse_expr.specs.declared.error.ReadErr.TheVariants as read_errs
 use Rattle.parse_expr.specs.Reading.{first, next, sees, refusal, Outcome, Reader}
 use Rattle.parse_expr.specs.Expr.{Measured, expr, part_in, arguments_from, operand, level, no_room}
 use Rattle.parse_expr.proofs.Sound.{Done, map_done, PartRead, part_sound, seen}
@@ -41,7 +41,7 @@ further a b (Err p) s l = end_of_end l s
 
 -- ---- the turns of arguments
 
-empty_expr : (room l : ℕ) → expr room l [] ≡ Err (stops.Fault Expected, [])
+empty_expr : (room l : ℕ) → expr room l [] ≡ Err (read_errs.Fault Expected, [])
 unfolding expr no_room level operand first refusal
 empty_expr zero l = refl
 empty_expr (suc room) l = refl

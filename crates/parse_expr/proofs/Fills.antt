@@ -5,8 +5,8 @@ use Rattle.fb_base.specs.declared.fault.FaultKind.TheVariants.{Expected, DeepNes
 use Rattle.fb_lexer.specs.declared.token.Token.{Token}
 use Rattle.fb_lexer.specs.declared.token.TokenKind.TheVariants as kinds
 use Rattle.fb_lexer.specs.declared.word.Word.TheVariants as w
-use Rattle.parse_expr.specs.declared.stop.Stop.{Stop}
-use Rattle.parse_expr.specs.declared.stop.Stop.TheVariants as stops
+use Rattle.parse_expr.specs.declared.error.ReadErr.{ReadErr}
+use Rattle.parse_expr.specs.declared.error.ReadErr.TheVariants as read_errs
 use Rattle.parse_expr.specs.Reading.{first, refusal, refusal_by, Outcome, Reader, and_then}
 use Rattle.parse_expr.specs.Faults.{is_refused_kind}
 use Rattle.parse_expr.proofs.Sound.{Done}
@@ -14,9 +14,9 @@ use Rattle.parse_expr.proofs.Refused.{refusals}
 
 -- ---- what holds of an outcome where nothing is read
 
-abbrev pub FailedBy : (FaultKind → List Token → Type 0) → Stop → List Token → Type 0
-FailedBy F stops.NoMemory rest = ⊥
-FailedBy F (stops.Fault kind) rest = F kind rest
+abbrev pub FailedBy : (FaultKind → List Token → Type 0) → ReadErr → List Token → Type 0
+FailedBy F read_errs.NoMemory rest = ⊥
+FailedBy F (read_errs.Fault kind) rest = F kind rest
 
 abbrev pub Failed : {A : Type 0} → (FaultKind → List Token → Type 0) → Outcome A → Type 0
 Failed F (Ok p) = Unit {0}
@@ -27,9 +27,9 @@ pub failed_then : {A B : Type 0} (P : A → List Token → Type 0) (F : FaultKin
 failed_then P F (Ok p) f d e k = k p.0 p.1 d
 failed_then P F (Err p) f d e k = e
 
-map_by : (F G : FaultKind → List Token → Type 0) (stop : Stop) (rest : List Token) → FailedBy F stop rest → ((kind : FaultKind) (rest : List Token) → F kind rest → G kind rest) → FailedBy G stop rest
-map_by F G stops.NoMemory rest e k = absurd e
-map_by F G (stops.Fault kind) rest e k = k kind rest e
+map_by : (F G : FaultKind → List Token → Type 0) (stop : ReadErr) (rest : List Token) → FailedBy F stop rest → ((kind : FaultKind) (rest : List Token) → F kind rest → G kind rest) → FailedBy G stop rest
+map_by F G read_errs.NoMemory rest e k = absurd e
+map_by F G (read_errs.Fault kind) rest e k = k kind rest e
 
 pub map_failed : {A : Type 0} (F G : FaultKind → List Token → Type 0) (o : Outcome A) → Failed F o → ((kind : FaultKind) (rest : List Token) → F kind rest → G kind rest) → Failed G o
 map_failed F G (Ok p) e k = tt

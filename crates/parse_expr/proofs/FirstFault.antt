@@ -7,10 +7,10 @@ use Rattle.fb_base.specs.declared.fault.FaultKind.{FaultKind}
 use Rattle.fb_base.specs.declared.fault.FaultKind.TheVariants.{Expected, DeepNesting, OutOfProfile}
 use Rattle.fb_lexer.specs.declared.token.Token.{Token}
 use Rattle.fb_ast.specs.declared.expr.Expr.{Expr}
-use Rattle.parse_expr.specs.declared.stop.Stop.{Stop}
-use Rattle.parse_expr.specs.declared.stop.Stop.TheVariants as stops
-use Rattle.parse_expr.specs.declared.stop.ParseErr.{ParseErr}
-use Rattle.parse_expr.specs.declared.stop.ParseErr.TheVariants as errors
+use Rattle.parse_expr.specs.declared.error.ReadErr.{ReadErr}
+use Rattle.parse_expr.specs.declared.error.ReadErr.TheVariants as read_errs
+use Rattle.parse_expr.specs.declared.error.ParseErr.{ParseErr}
+use Rattle.parse_expr.specs.declared.error.ParseErr.TheVariants as errors
 use Rattle.parse_expr.specs.Reading.{Outcome}
 use Rattle.parse_expr.specs.Expr.{Measured, expr, told, expr_at, error_of, fault_place, Answers}
 use Rattle.parse_expr.specs.Grammar.{Expression, Is, IsExpression, Begins, BeginsAtAnyDepth}
@@ -22,21 +22,21 @@ use Rattle.parse_expr.proofs.Unique.{read_is, nothing_behind}
 use Rattle.parse_expr.proofs.Answered.{stands}
 use Rattle.parse_expr.proofs.Firsts.{alike, none_alike, not_ok, left, none_begins, head_or, tail_of, further, longest}
 use Rattle.parse_expr.proofs.Fills.{Failed, FailedBy, FaultOf, Fills, Next, IsFree}
-use Rattle.parse_expr.proofs.Rowed.{Whole, NoRoom}
+use Rattle.parse_expr.proofs.Completed.{Whole, NoRoom}
 use Rattle.parse_expr.proofs.Begun.{begun}
-use Rattle.parse_expr.proofs.Twins.{Place, same_place, cut_place, other_place, Near, twins}
+use Rattle.parse_expr.proofs.Twins.{Position, same_place, cut_place, other_place, Near, twins}
 
 -- ---- what a reading at a fault says of another one
 
 -- a fault of no such kind at the place, where the second reading ends at the end of its tokens
-pub clash : {A : Type 0} (L : FaultKind → Type 0) (t : Token) (s v : List Token) (place : Place L t v) (kind : FaultKind) (other : Outcome A) (x : A)
-    → Near L t s v place {A = A} (Err (stops.Fault kind, t ∷ s)) other → (L kind → ⊥) → other ≡ Ok (x, []) → ⊥
+pub clash : {A : Type 0} (L : FaultKind → Type 0) (t : Token) (s v : List Token) (place : Position L t v) (kind : FaultKind) (other : Outcome A) (x : A)
+    → Near L t s v place {A = A} (Err (read_errs.Fault kind, t ∷ s)) other → (L kind → ⊥) → other ≡ Ok (x, []) → ⊥
 clash L t s v place kind other x (inl (inl small)) never is = absurd (omega arith)
 clash L t s v place kind other x (inl (inr loose)) never is = never loose
 clash {A = A} L t s v place kind other x (inr l) never is = let both : ◌≡◌ {A = Outcome A} (Err (l.0, l.1)) (Ok (x, [])) = sym l.2 ∙ is in cc
 
 -- a reading that ends before the place's token, where the second one ends at the end of its tokens
-pub goes_further : {A : Type 0} (L : FaultKind → Type 0) (t : Token) (s v : List Token) (place : Place L t v) (other : Outcome A) (x y : A) → (v ≡ [] → ⊥)
+pub goes_further : {A : Type 0} (L : FaultKind → Type 0) (t : Token) (s v : List Token) (place : Position L t v) (other : Outcome A) (x y : A) → (v ≡ [] → ⊥)
     → Near L t s v place {A = A} (Ok (y, t ∷ s)) other → other ≡ Ok (x, []) → ⊥
 goes_further L t s v place other x y some (inl small) is = absurd (omega arith)
 goes_further {A = A} L t s v place other x y some (inr l) is =
@@ -59,7 +59,7 @@ module _ (front s : List Token) (t : Token) where
   begun_read u b = deep_read (front ++ u ∷ b.0) b.1 b.2 (199 + b.2) (subst (λ (xs : List Token). Is (Expression 1 b.2 b.1) xs) (append_assoc front (u ∷ []) b.0) b.3) (omega arith)
 
   -- where another token is required none of any depth begins with this one
-  no_deeper : expr 200 1 (front ++ t ∷ s) ≡ Err (stops.Fault Expected, t ∷ s) → BeginsAtAnyDepth (front ++ t ∷ []) → ⊥
+  no_deeper : expr 200 1 (front ++ t ∷ s) ≡ Err (read_errs.Fault Expected, t ∷ s) → BeginsAtAnyDepth (front ++ t ∷ []) → ⊥
   no_deeper is b =
       let place = same_place OnlyDeep t b.0 in
       let near = (twins OnlyDeep t s (t ∷ b.0) place 200 (suc (199 + b.2)) (inr (refl, omega arith)) 1).near (front ++ t ∷ s) (front ++ t ∷ b.0) (alike OnlyDeep t s (t ∷ b.0) place front) in
@@ -67,7 +67,7 @@ module _ (front s : List Token) (t : Token) where
       (subst (λ (o : Outcome Measured). Near OnlyDeep t s (t ∷ b.0) place o (expr (suc (199 + b.2)) 1 (front ++ t ∷ b.0))) is near) (λ never. cc) (begun_read t b)
 
   -- and where this is a word that the profile doesn't have, no operand and no type may stand there
-  no_other : expr 200 1 (front ++ t ∷ s) ≡ Err (stops.Fault Expected, t ∷ s) → is_refused_kind t.kind ≡ true → (u : Token) → IsFree u → BeginsAtAnyDepth (front ++ u ∷ []) → ⊥
+  no_other : expr 200 1 (front ++ t ∷ s) ≡ Err (read_errs.Fault Expected, t ∷ s) → is_refused_kind t.kind ≡ true → (u : Token) → IsFree u → BeginsAtAnyDepth (front ++ u ∷ []) → ⊥
   no_other is word u free b =
       let place = other_place DeepOrOut t u b.0 (inl refl) (inr refl) word free in
       let near = (twins DeepOrOut t s (u ∷ b.0) place 200 (suc (199 + b.2)) (inr (inl refl, omega arith)) 1).near (front ++ t ∷ s) (front ++ u ∷ b.0) (alike DeepOrOut t s (u ∷ b.0) place front) in
@@ -75,7 +75,7 @@ module _ (front s : List Token) (t : Token) where
       (subst (λ (o : Outcome Measured). Near DeepOrOut t s (u ∷ b.0) place o (expr (suc (199 + b.2)) 1 (front ++ u ∷ b.0))) is near) (λ never. elim never [ inl e ↦ cc | inr e ↦ cc ]) (begun_read u b)
 
   -- where not the depth alone forbids to go on, the front is no whole expression
-  not_whole : (kind : FaultKind) → expr 200 1 (front ++ t ∷ s) ≡ Err (stops.Fault kind, t ∷ s) → (kind ≡ DeepNesting → ⊥) → (tree : Expr) → IsExpression front tree → ⊥
+  not_whole : (kind : FaultKind) → expr 200 1 (front ++ t ∷ s) ≡ Err (read_errs.Fault kind, t ∷ s) → (kind ≡ DeepNesting → ⊥) → (tree : Expr) → IsExpression front tree → ⊥
   not_whole kind is other tree e =
       let place = cut_place OnlyDeep t refl in
       let near = (twins OnlyDeep t s [] place 200 200 (inl refl) 1).near (front ++ t ∷ s) (front ++ []) (alike OnlyDeep t s [] place front) in
@@ -95,7 +95,7 @@ module _ (front s : List Token) (t : Token) where
 refused_apart : (t : Token) (front : List Token) → is_refused_kind t.kind ≡ false → RefusedThere front t → ⊥
 refused_apart t front plain r = let both : true ≡ false = sym r.word ∙ plain in cc
 
-taken_there : (front s : List Token) (t : Token) → expr 200 1 (front ++ t ∷ s) ≡ Err (stops.Fault Expected, t ∷ s) → RefusedThere front t → ⊥
+taken_there : (front s : List Token) (t : Token) → expr 200 1 (front ++ t ∷ s) ≡ Err (read_errs.Fault Expected, t ∷ s) → RefusedThere front t → ⊥
 taken_there front s t is r = elim r.here [
   | inl a ↦ no_other front s t is r.word a.token (inl (a.value, a.kind)) a.begins
   | inr a ↦ no_other front s t is r.word a.token (inr a.kind) a.begins
@@ -111,7 +111,7 @@ other_here front u (inr n) f = inr (record { token = u; kind = n; begins = begin
 abbrev WholeOnlyDeep : List Token → FaultKind → Type 0
 WholeOnlyDeep front kind = (tree : Expr) → IsExpression front tree → kind ≡ DeepNesting
 
-kind_is : (front s : List Token) (t : Token) (kind : FaultKind) → expr 200 1 (front ++ t ∷ s) ≡ Err (stops.Fault kind, t ∷ s) → Next (Whole 200 1) front (t ∷ s) kind → HasKind front t kind × WholeOnlyDeep front kind
+kind_is : (front s : List Token) (t : Token) (kind : FaultKind) → expr 200 1 (front ++ t ∷ s) ≡ Err (read_errs.Fault kind, t ∷ s) → Next (Whole 200 1) front (t ∷ s) kind → HasKind front t kind × WholeOnlyDeep front kind
 kind_is front s t Expected is n = ((taken_there front s t is, no_deeper front s t is), λ tree e. absurd (not_whole front s t Expected is (λ never. cc) tree e))
 kind_is front s t DeepNesting is n =
     let same : t ≡ n.token = ap (head_or t) n.is in
@@ -129,15 +129,15 @@ end_is front DeepNesting n = let is : [] ≡ n.token ∷ n.behind = n.is in cc
 end_is front OutOfProfile n = let is : [] ≡ n.token ∷ n.behind = n.is in cc
 end_is front kind n = absurd n
 
-stops_at : (front rest : List Token) (kind : FaultKind) → expr 200 1 (front ++ rest) ≡ Err (stops.Fault kind, rest) → Next (Whole 200 1) front rest kind → StopsAt front rest kind
-stops_at front [] kind is n = (end_is front kind n, λ tree e. not_ok (stops.Fault kind, []) (tree, e.0) [] (sym is ∙ read_is 199 front [] tree e.0 e.2 e.1 nothing_behind))
+stops_at : (front rest : List Token) (kind : FaultKind) → expr 200 1 (front ++ rest) ≡ Err (read_errs.Fault kind, rest) → Next (Whole 200 1) front rest kind → StopsAt front rest kind
+stops_at front [] kind is n = (end_is front kind n, λ tree e. not_ok (read_errs.Fault kind, []) (tree, e.0) [] (sym is ∙ read_is 199 front [] tree e.0 e.2 e.1 nothing_behind))
 stops_at front (t ∷ s) kind is n = let k = kind_is front s t kind is n in (none_begins front s t (ap left is), k.0, k.1)
 
 begins_by : (N : Type 0) (front : List Token) → (N → ⊥) → Fills (Whole 200 1) 0 front ⊎ (N × (front ≡ [])) → Begins front
 begins_by N front never (inl f) = let small = f.are.within in (f.more, f.are.tree, (f.are.depth, omega arith, f.are.are))
 begins_by N front never (inr n) = absurd (never n.0)
 
-first_there : (tokens : List Token) (at : ℕ) (kind : FaultKind) (rest : List Token) → expr 200 1 (drop at tokens) ≡ Err (stops.Fault kind, rest) → FaultOf (NoRoom 200) (Whole 200 1) (drop at tokens) kind rest
+first_there : (tokens : List Token) (at : ℕ) (kind : FaultKind) (rest : List Token) → expr 200 1 (drop at tokens) ≡ Err (read_errs.Fault kind, rest) → FaultOf (NoRoom 200) (Whole 200 1) (drop at tokens) kind rest
     → FirstFault tokens at (record { kind = kind; at = fault_place tokens rest })
 first_there tokens at kind rest is f = record {
   front = f.front;
@@ -156,10 +156,10 @@ abbrev error_in : ParseErr → Result (Expr × ℕ) ParseErr → ParseErr
 error_in other (Ok p) = other
 error_in other (Err e) = e
 
-first_by : (tokens : List Token) (at : ℕ) (fault : Fault) (stop : Stop) (rest : List Token) → expr 200 1 (drop at tokens) ≡ Err (stop, rest) → FailedBy (FaultOf (NoRoom 200) (Whole 200 1) (drop at tokens)) stop rest
+first_by : (tokens : List Token) (at : ℕ) (fault : Fault) (stop : ReadErr) (rest : List Token) → expr 200 1 (drop at tokens) ≡ Err (stop, rest) → FailedBy (FaultOf (NoRoom 200) (Whole 200 1) (drop at tokens)) stop rest
     → error_of tokens stop rest ≡ errors.Fault fault → FirstFault tokens at fault
-first_by tokens at fault stops.NoMemory rest is f answer = absurd f
-first_by tokens at fault (stops.Fault kind) rest is f answer = subst (FirstFault tokens at) (ap (fault_in fault) answer) (first_there tokens at kind rest is f)
+first_by tokens at fault read_errs.NoMemory rest is f answer = absurd f
+first_by tokens at fault (read_errs.Fault kind) rest is f answer = subst (FirstFault tokens at) (ap (fault_in fault) answer) (first_there tokens at kind rest is f)
 
 first_of_answer : (tokens : List Token) (at : ℕ) (fault : Fault) (o : Outcome Measured) → expr 200 1 (drop at tokens) ≡ o → Failed (FaultOf (NoRoom 200) (Whole 200 1) (drop at tokens)) o
     → told tokens o ≡ Err (errors.Fault fault) → FirstFault tokens at fault
@@ -268,10 +268,10 @@ faulty tokens at fault p f is d =
     let read : expr 200 1 (f.front ++ f.rest) ≡ Ok (p.0, f.rest) = ap (expr 200 1) (sym f.is) ∙ is ∙ ap (λ (xs : List Token). Ok (p.0, xs)) (sym m.rests) in
     not_read f.front f.rest fault.kind p.0 p.0.0 f.stops (subst (λ (xs : List Token). IsExpression xs p.0.0) (sym m.fronts) e) read
 
-told_by : (tokens : List Token) (at : ℕ) (fault : Fault) (stop : Stop) (rest : List Token) → FirstFault tokens at fault → expr 200 1 (drop at tokens) ≡ Err (stop, rest)
+told_by : (tokens : List Token) (at : ℕ) (fault : Fault) (stop : ReadErr) (rest : List Token) → FirstFault tokens at fault → expr 200 1 (drop at tokens) ≡ Err (stop, rest)
     → FailedBy (FaultOf (NoRoom 200) (Whole 200 1) (drop at tokens)) stop rest → error_of tokens stop rest ≡ errors.Fault fault
-told_by tokens at fault stops.NoMemory rest f is failed = absurd failed
-told_by tokens at fault (stops.Fault kind) rest f is failed = ap errors.Fault (one_fault tokens at (record { kind = kind; at = fault_place tokens rest }) fault (first_there tokens at kind rest is failed) f)
+told_by tokens at fault read_errs.NoMemory rest f is failed = absurd failed
+told_by tokens at fault (read_errs.Fault kind) rest f is failed = ap errors.Fault (one_fault tokens at (record { kind = kind; at = fault_place tokens rest }) fault (first_there tokens at kind rest is failed) f)
 
 told_if : (tokens : List Token) (at : ℕ) (fault : Fault) (o : Outcome Measured) → FirstFault tokens at fault → expr 200 1 (drop at tokens) ≡ o → Done (IsRead 200 1 (drop at tokens)) o
     → Failed (FaultOf (NoRoom 200) (Whole 200 1) (drop at tokens)) o → told tokens o ≡ Err (errors.Fault fault)

@@ -5,20 +5,20 @@ use Rattle.fb_base.specs.declared.fault.Span.{Span}
 use Rattle.fb_base.specs.declared.fault.FaultKind.{FaultKind}
 use Rattle.fb_lexer.specs.declared.token.Token.{Token}
 use Rattle.fb_ast.specs.declared.expr.Expr.{Expr}
-use Rattle.parse_expr.specs.declared.stop.Stop.{Stop}
+use Rattle.parse_expr.specs.declared.error.ReadErr.{ReadErr}
 use Rattle.parse_expr.specs.Reading.{Outcome}
 use Rattle.parse_expr.specs.Expr.{Measured, expr, told, expr_at, error_of, fault_place}
 use Rattle.parse_expr.specs.Grammar.{IsExpression, Begins, Stands, EndsAt}
 use Rattle.fb_base.specs.declared.fault.Fault.{Fault}
-use Rattle.parse_expr.specs.declared.stop.Stop.TheVariants as stops
-use Rattle.parse_expr.specs.declared.stop.ParseErr.{ParseErr}
-use Rattle.parse_expr.specs.declared.stop.ParseErr.TheVariants as errors
+use Rattle.parse_expr.specs.declared.error.ReadErr.TheVariants as read_errs
+use Rattle.parse_expr.specs.declared.error.ParseErr.{ParseErr}
+use Rattle.parse_expr.specs.declared.error.ParseErr.TheVariants as errors
 use Rattle.parse_expr.proofs.Unique.{read_is, nothing_behind}
 use Rattle.parse_expr.proofs.Ends.{Leaves}
-use Rattle.parse_expr.proofs.Rowed.{a_number}
-use Rattle.parse_expr.proofs.Twins.{Place, same_place, Alike, here, there, Loose, Near, twins}
+use Rattle.parse_expr.proofs.Completed.{a_number}
+use Rattle.parse_expr.proofs.Twins.{Position, same_place, Alike, here, there, Loose, Near, twins}
 
-pub alike : (L : FaultKind → Type 0) (t : Token) (s v : List Token) (place : Place L t v) (front : List Token) → Alike L t s v place (front ++ t ∷ s) (front ++ v)
+pub alike : (L : FaultKind → Type 0) (t : Token) (s v : List Token) (place : Position L t v) (front : List Token) → Alike L t s v place (front ++ t ∷ s) (front ++ v)
 alike L t s v place [] = here
 alike L t s v place (x ∷ front) = there x (front ++ t ∷ s) (front ++ v) (alike L t s v place front)
 
@@ -31,10 +31,10 @@ abbrev pub left : {A : Type 0} → Outcome A → List Token
 left (Ok p) = p.1
 left (Err p) = p.1
 
-pub not_ok : (p : Stop × List Token) (x : Measured) (r : List Token) → ◌≡◌ {A = Outcome Measured} (Err p) (Ok (x, r)) → ⊥
+pub not_ok : (p : ReadErr × List Token) (x : Measured) (r : List Token) → ◌≡◌ {A = Outcome Measured} (Err p) (Ok (x, r)) → ⊥
 not_ok p x r is = cc
 
-pub none_alike : (L : FaultKind → Type 0) (t : Token) (s v : List Token) (place : Place L t v) (a b : List Token) → b ≡ [] → (v ≡ [] → ⊥) → Alike L t s v place a b → ⊥
+pub none_alike : (L : FaultKind → Type 0) (t : Token) (s v : List Token) (place : Position L t v) (a b : List Token) → b ≡ [] → (v ≡ [] → ⊥) → Alike L t s v place a b → ⊥
 none_alike L t s v place a b is some here = some is
 none_alike L t s v place a b is some (there x c d al) = cc
 
@@ -42,11 +42,11 @@ none_alike L t s v place a b is some (there x c d al) = cc
 abbrev Never : FaultKind → Type 0
 Never kind = ⊥
 
-never_loose : (t : Token) (s v : List Token) (place : Place Never t v) (stop : Stop) → Loose Never t s v place stop → ⊥
-never_loose t s v place stops.NoMemory loose = loose
-never_loose t s v place (stops.Fault kind) loose = loose
+never_loose : (t : Token) (s v : List Token) (place : Position Never t v) (stop : ReadErr) → Loose Never t s v place stop → ⊥
+never_loose t s v place read_errs.NoMemory loose = loose
+never_loose t s v place (read_errs.Fault kind) loose = loose
 
-not_all : (t : Token) (s v : List Token) (place : Place Never t v) (o other : Outcome Measured) (x : Measured) → Near Never t s v place o other → (v ≡ [] → ⊥) → other ≡ Ok (x, []) → length s < length (left o) → ⊥
+not_all : (t : Token) (s v : List Token) (place : Position Never t v) (o other : Outcome Measured) (x : Measured) → Near Never t s v place o other → (v ≡ [] → ⊥) → other ≡ Ok (x, []) → length s < length (left o) → ⊥
 not_all t s v place (Ok p) other x (inl small) some is more = absurd (omega arith)
 not_all t s v place (Err p) other x (inl (inl small)) some is more = absurd (omega arith)
 not_all t s v place (Err p) other x (inl (inr loose)) some is more = never_loose t s v place p.0 loose
@@ -102,9 +102,9 @@ abbrev place_in : Span → ParseErr → Span
 place_in other errors.NoMemory = other
 place_in other (errors.Fault fault) = fault.at
 
-pub place_by : (tokens : List Token) (fault : Fault) (stop : Stop) (rest : List Token) → error_of tokens stop rest ≡ errors.Fault fault → fault.at ≡ fault_place tokens rest
-place_by tokens fault stops.NoMemory rest is = cc
-place_by tokens fault (stops.Fault kind) rest is = sym (ap (place_in fault.at) is)
+pub place_by : (tokens : List Token) (fault : Fault) (stop : ReadErr) (rest : List Token) → error_of tokens stop rest ≡ errors.Fault fault → fault.at ≡ fault_place tokens rest
+place_by tokens fault read_errs.NoMemory rest is = cc
+place_by tokens fault (read_errs.Fault kind) rest is = sym (ap (place_in fault.at) is)
 
 abbrev error_or : ParseErr → Result (Expr × ℕ) ParseErr → ParseErr
 error_or other (Ok p) = other

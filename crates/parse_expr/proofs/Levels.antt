@@ -20,7 +20,7 @@ use Rattle.parse_expr.specs.Grammar.{Expression, Is, primary, suffix, prefix, bi
 
 -- an expression of a level is one of each lower level
 pub lower : {m d : ℕ} {tree : Expr} {ts : List Token} (k : ℕ) → k ≤ m → Is (Expression m d tree) ts → Is (Expression k d tree) ts
-lower k below (primary t row ts m d tree a b c r) = primary t row ts k d tree a b (omega arith) r
+lower k below (primary t production ts m d tree a b c r) = primary t production ts k d tree a b (omega arith) r
 lower k below (suffix front t back kind left c m d tree a b e l r) = suffix front t back kind left c k d tree a b (omega arith) l r
 lower k below (prefix t ts operator n d m operand a b r) = prefix t ts operator n d k operand a (omega arith) r
 lower k below (binary front t back operator n c d m left right a b l r) = binary front t back operator n c d k left right a (omega arith) l r

@@ -14,7 +14,7 @@ pub mod Unique
 pub mod Ends
 pub mod Refused
 pub mod Fills
-pub mod Rowed
+pub mod Completed
 pub mod Begun
 pub mod Twins
 pub mod Firsts

@@ -1,4 +1,4 @@
--- What the rows of the productions have in common: behind a part comes a mark that goes on with no expression.
+-- What the productions of the productions have in common: behind a part comes a mark that goes on with no expression.
 use Rattle.std.proofs.Common.{◌≡◌, ℕ, Bool, true, false, List, [], ◌∷◌, ◌++◌, Some, None, refl, sym, ap, ◌∙◌, rules}
 use Rattle.fb_base.specs.declared.fault.Span.{Span}
 use Rattle.fb_lexer.specs.declared.token.Token.{Token}
@@ -16,7 +16,7 @@ use Rattle.parse_expr.specs.declared.kinds.OperandWord.{OperandWord}
 use Rattle.parse_expr.specs.declared.kinds.OperandWord.TheVariants as begins_word
 use Rattle.parse_expr.specs.Words.{suffix_of, suffix_mark, binary_of, binary_mark, is_pointer, operand_word}
 use Rattle.parse_expr.specs.Reading.{first, same_mark, is_mark, holds, sees}
-use Rattle.parse_expr.specs.Rows.{Row, gives, mark, typed, named, part, arguments, choice, Start, Leaf, Inner, Nothing, start_of, word_start, mark_start, suffix_row, new_row, new_array_row}
+use Rattle.parse_expr.specs.Productions.{Production, gives, mark, typed, named, part, arguments, choice, Start, Leaf, Inner, Nothing, start_of, word_start, mark_start, suffix_production, new_production, new_array_production}
 use Rattle.parse_expr.specs.Expr.{opens}
 use Rattle.parse_expr.specs.Grammar.{may_follow, Behind, Is, nothing, a_mark, with_choice, without_choice}
 use Rattle.parse_expr.proofs.Sound.{mark_is}
@@ -27,34 +27,34 @@ use Rattle.parse_expr.proofs.Depths.{Deep}
 abbrev pub Stops : Mark → Type 0
 Stops which = (suffix_mark which ≡ None) × (binary_mark which ≡ None)
 
-abbrev pub Stopped : Row → Type 0
-Stopped (mark which row) = Stops which
-Stopped row = ⊥
+abbrev pub Stopped : Production → Type 0
+Stopped (mark which production) = Stops which
+Stopped production = ⊥
 
 -- behind a type comes a mark, or nothing
-abbrev pub Unpointed : Row → Type 0
+abbrev pub Unpointed : Production → Type 0
 Unpointed (gives tree) = Unit {0}
-Unpointed (mark which row) = Unit {0}
+Unpointed (mark which production) = Unit {0}
 Unpointed (choice which one other) = Unpointed other
-Unpointed row = ⊥
+Unpointed production = ⊥
 
 -- no pointer word comes next, and no mark that goes on with the tree
 pub record Ends (tree : Expr) (rest : List Token) : Type 0 where
   pub goes : MayGo tree rest
   pub no_pointer : holds is_pointer (first rest) ≡ false
 
--- where the mark of a choice comes next it is the first row's
-pub record Chosen (which : Mark) (one other : Row) : Type 0 where
+-- where the mark of a choice comes next it is the first production's
+pub record Chosen (which : Mark) (one other : Production) : Type 0 where
   pub apart : (ts : List Token) (deepest depth : ℕ) (tree : Expr) (rest : List Token) → Is (Behind other deepest depth tree) ts → MayGo tree rest → sees which (ts ++ rest) ≡ false
   pub inside : opens one ≡ true → Deep one
 
-abbrev pub Passes : Row → Type 0
+abbrev pub Passes : Production → Type 0
 Passes (gives tree) = Unit {0}
-Passes (mark which row) = Passes row
-Passes (typed row) = (ty : TypeName) → Unpointed (row ty) × Passes (row ty)
-Passes (named row) = (name : Name) → Passes (row name)
-Passes (part row) = (inner : Expr) → Stopped (row inner) × Passes (row inner)
-Passes (arguments row) = (all : List Expr) → Passes (row all)
+Passes (mark which production) = Passes production
+Passes (typed production) = (ty : TypeName) → Unpointed (production ty) × Passes (production ty)
+Passes (named production) = (name : Name) → Passes (production name)
+Passes (part production) = (inner : Expr) → Stopped (production inner) × Passes (production inner)
+Passes (arguments production) = (all : List Expr) → Passes (production all)
 Passes (choice which one other) = Chosen which one other × Passes one × Passes other
 
 -- ---- the choices behind the type of a New
@@ -82,12 +82,12 @@ plain_apart : (at : Span) (ty : TypeName) (ts : List Token) (deepest depth : ℕ
 plain_apart at ty ts deepest depth tree rest (nothing c d) goes = unseen OpenBracket suffix_kinds.Index at ty rest refl (search (rules, the_lemmas)) goes
 
 open_apart : (at : Span) (ty : TypeName) (ts : List Token) (deepest depth : ℕ) (tree : Expr) (rest : List Token)
-    → Is (Behind (choice OpenBracket (new_array_row at ty) (gives (e.New at ty))) deepest depth tree) ts → MayGo tree rest → sees Open (ts ++ rest) ≡ false
+    → Is (Behind (choice OpenBracket (new_array_production at ty) (gives (e.New at ty))) deepest depth tree) ts → MayGo tree rest → sees Open (ts ++ rest) ≡ false
 unfolding sees first same_mark
 open_apart at ty ts deepest depth tree rest (with_choice t more which one other c d x kind r) goes = other_mark Open OpenBracket t.kind kind refl
 open_apart at ty ts deepest depth tree rest (without_choice more which one other c d x (nothing f g)) goes = unseen Open suffix_kinds.Call at ty rest refl (search (rules, the_lemmas)) goes
 
-new_passes : (at : Span) → Passes (new_row at)
+new_passes : (at : Span) → Passes (new_production at)
 new_passes at ty = (
   tt,
   (
@@ -98,8 +98,8 @@ new_passes at ty = (
 )
 
 abbrev pub StartPasses : Start → Type 0
-StartPasses (Leaf row) = Passes row
-StartPasses (Inner row) = Passes row × Deep row
+StartPasses (Leaf production) = Passes production
+StartPasses (Inner production) = Passes production × Deep production
 StartPasses Nothing = Unit {0}
 
 word_passes : (at : Span) (word : OperandWord) → StartPasses (word_start at word)
@@ -127,7 +127,7 @@ start_passes at (kinds.Word word) = word_passes at (operand_word word)
 start_passes at kinds.Colon = tt
 start_passes at kinds.LineEnd = tt
 
-pub suffix_passes : (left : Expr) (kind : Suffix) → Passes (suffix_row left kind)
+pub suffix_passes : (left : Expr) (kind : Suffix) → Passes (suffix_production left kind)
 suffix_passes left suffix_kinds.Call = λ all. tt
 suffix_passes left suffix_kinds.Index = λ inner. ((refl, refl), tt)
 suffix_passes left suffix_kinds.Field = λ name. tt
@@ -146,22 +146,22 @@ pub record Stopping (ts : List Token) : Type 0 where
 pub by_mark : (t : Token) (ts : List Token) (which : Mark) → t.kind ≡ kinds.Mark which → Stops which → Stopping (t ∷ ts)
 by_mark t ts which kind s = record { token = t; more = ts; is = refl; suffix = ap suffix_of kind ∙ s.0; operator = ap binary_of kind ∙ s.1; pointer = ap is_pointer kind }
 
-pub stopping : (row : Row) (deepest depth : ℕ) (tree : Expr) (ts : List Token) → Stopped row → Is (Behind row deepest depth tree) ts → Stopping ts
-stopping (mark which row) deepest depth tree ts s (a_mark t more w r c d x kind i) = by_mark t more which kind s
+pub stopping : (production : Production) (deepest depth : ℕ) (tree : Expr) (ts : List Token) → Stopped production → Is (Behind production deepest depth tree) ts → Stopping ts
+stopping (mark which production) deepest depth tree ts s (a_mark t more w r c d x kind i) = by_mark t more which kind s
 stopping (gives tree) deepest depth x ts s i = absurd s
-stopping (typed row) deepest depth x ts s i = absurd s
-stopping (named row) deepest depth x ts s i = absurd s
-stopping (part row) deepest depth x ts s i = absurd s
-stopping (arguments row) deepest depth x ts s i = absurd s
+stopping (typed production) deepest depth x ts s i = absurd s
+stopping (named production) deepest depth x ts s i = absurd s
+stopping (part production) deepest depth x ts s i = absurd s
+stopping (arguments production) deepest depth x ts s i = absurd s
 stopping (choice which one other) deepest depth x ts s i = absurd s
 
-pub unpointed : (row : Row) (deepest depth : ℕ) (tree : Expr) (ts rest : List Token) → Unpointed row → Is (Behind row deepest depth tree) ts → holds is_pointer (first rest) ≡ false → holds is_pointer (first (ts ++ rest)) ≡ false
+pub unpointed : (production : Production) (deepest depth : ℕ) (tree : Expr) (ts rest : List Token) → Unpointed production → Is (Behind production deepest depth tree) ts → holds is_pointer (first rest) ≡ false → holds is_pointer (first (ts ++ rest)) ≡ false
 unfolding first
-unpointed (mark which row) deepest depth tree ts rest u (a_mark t more w r c d x kind i) none = ap is_pointer kind
+unpointed (mark which production) deepest depth tree ts rest u (a_mark t more w r c d x kind i) none = ap is_pointer kind
 unpointed (gives tree) deepest depth x ts rest u (nothing c d) none = none
 unpointed (choice which one other) deepest depth x ts rest u (with_choice t more w a b c d y kind i) none = ap is_pointer kind
 unpointed (choice which one other) deepest depth x ts rest u (without_choice more w a b c d y i) none = unpointed other deepest depth x ts rest u i none
-unpointed (typed row) deepest depth x ts rest u i none = absurd u
-unpointed (named row) deepest depth x ts rest u i none = absurd u
-unpointed (part row) deepest depth x ts rest u i none = absurd u
-unpointed (arguments row) deepest depth x ts rest u i none = absurd u
+unpointed (typed production) deepest depth x ts rest u i none = absurd u
+unpointed (named production) deepest depth x ts rest u i none = absurd u
+unpointed (part production) deepest depth x ts rest u i none = absurd u
+unpointed (arguments production) deepest depth x ts rest u i none = absurd u

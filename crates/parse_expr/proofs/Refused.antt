@@ -12,8 +12,8 @@ use Rattle.parse_expr.specs.declared.kinds.Suffix.{Suffix}
 use Rattle.parse_expr.specs.declared.kinds.OperandWord.TheVariants as begins_word
 use Rattle.parse_expr.specs.Words.{is_refused, prefix_of, binary_of, binary_word, suffix_of, base_of, base_word, operand_word}
 use Rattle.parse_expr.specs.Reading.{refusal_by}
-use Rattle.parse_expr.specs.Rows.{Row, Nothing, start_of, word_start}
-use Rattle.parse_expr.specs.Grammar.{row_of}
+use Rattle.parse_expr.specs.Productions.{Production, Nothing, start_of, word_start}
+use Rattle.parse_expr.specs.Grammar.{production_of}
 use Rattle.parse_expr.specs.Faults.{is_refused_kind}
 
 pub record Nowhere (kind : TokenKind) : Type 0 where
@@ -88,8 +88,8 @@ binary_plain kind p is = plain kind (λ n. let both : None ≡ Some p = sym n.bi
 pub suffix_plain : (kind : TokenKind) (s : Suffix) → suffix_of kind ≡ Some s → is_refused_kind kind ≡ false
 suffix_plain kind s is = plain kind (λ n. let both : None ≡ Some s = sym n.suffix ∙ is in cc)
 
-pub start_plain : (at : Span) (kind : TokenKind) (row : Row) → row_of (start_of at kind) ≡ Some row → is_refused_kind kind ≡ false
-start_plain at kind row is = plain kind (λ n. let both : None ≡ Some row = sym (ap row_of (n.start at)) ∙ is in cc)
+pub start_plain : (at : Span) (kind : TokenKind) (production : Production) → production_of (start_of at kind) ≡ Some production → is_refused_kind kind ≡ false
+start_plain at kind production is = plain kind (λ n. let both : None ≡ Some production = sym (ap production_of (n.start at)) ∙ is in cc)
 
 -- ---- what a refusal says
 

@@ -13,8 +13,8 @@ use Rattle.fb_ast.specs.declared.part.Name.{Name}
 use Rattle.parse_expr.specs.Words.{is_pointer, base_of}
 use Rattle.parse_expr.specs.Reading.{first, next, same_mark, is_mark, sees, expect, Outcome, Reader, and_then}
 use Rattle.parse_expr.specs.Types.{pointers, behind_pointers, type_name, type_from, name, name_by}
-use Rattle.parse_expr.specs.Rows.{Row, gives, mark, typed, named, part, arguments, choice}
-use Rattle.parse_expr.specs.Expr.{Measured, expr, part_in, arguments_from, arguments_in, read_row, opens, operator_at}
+use Rattle.parse_expr.specs.Productions.{Production, gives, mark, typed, named, part, arguments, choice}
+use Rattle.parse_expr.specs.Expr.{Measured, expr, part_in, arguments_from, arguments_in, read_production, opens, operator_at}
 use Rattle.parse_expr.specs.Grammar.{ArePointers, IsType, written, Expression, Behind, Arguments, Is, nothing, a_mark, a_type, a_name, a_part, no_arguments, some_arguments, with_choice, without_choice, last_argument, one_argument}
 
 -- ---- steps of a reading
@@ -116,7 +116,7 @@ unfolding type_name first
 type_sound [] = tt
 type_sound (t ∷ ts) = type_by t ts (base_of t.kind) refl
 
--- ---- rows
+-- ---- productions
 
 -- An expression of this level at most so deep, behind which comes no operator of the level.
 pub record IsRead (room level : ℕ) (ts : List Token) (x : Measured) (rest : List Token) : Type 0 where
@@ -203,10 +203,10 @@ arguments_from_sound room right (suc n) found deepest ts =
     (λ a rest s. comma room deepest found ts a rest s n (sees Comma rest) refl (arguments_from_sound room right n (found ++ a.0 ∷ []) a.1 (next rest)))
 
 -- what is read behind the first token of a production
-pub record RowRead (room : ℕ) (row : Row) (deepest : ℕ) (ts : List Token) (x : Measured) (rest : List Token) : Type 0 where
+pub record ProductionRead (room : ℕ) (production : Production) (deepest : ℕ) (ts : List Token) (x : Measured) (rest : List Token) : Type 0 where
   pub front : List Token
   pub is : ts ≡ front ++ rest
-  pub are : Is (Behind row deepest x.1 x.0) front
+  pub are : Is (Behind production deepest x.1 x.0) front
   pub within : deepest ≤ room → x.1 ≤ suc room
 
 -- arguments, or the closing parenthesis alone
@@ -220,76 +220,76 @@ arguments_sound room right deepest ts =
     (λ is. inl (seen Close ts is, refl, refl))
     (λ is. map_done (ArgumentsRead room deepest [] ts) (ArgumentsOrNone room deepest ts) _ (arguments_from_sound room right (length ts) [] deepest ts) (λ x left r. inr r))
 
-with_arguments : (room deepest : ℕ) (ts : List Token) (row : List Expr → Row) (a : List Expr × ℕ) (rest : List Token) → ArgumentsOrNone room deepest ts a rest
-    → (x : Measured) (left : List Token) → RowRead room (row a.0) a.1 rest x left → RowRead room (arguments row) deepest ts x left
-with_arguments room deepest ts row a rest (inl s) x left r =
+with_arguments : (room deepest : ℕ) (ts : List Token) (production : List Expr → Production) (a : List Expr × ℕ) (rest : List Token) → ArgumentsOrNone room deepest ts a rest
+    → (x : Measured) (left : List Token) → ProductionRead room (production a.0) a.1 rest x left → ProductionRead room (arguments production) deepest ts x left
+with_arguments room deepest ts production a rest (inl s) x left r =
     let t = s.0 in
-    let same : Is (Behind (row []) deepest x.1 x.0) r.front = subst (λ (n : ℕ). Is (Behind (row []) n x.1 x.0) r.front) s.2 (subst (λ (all : List Expr). Is (Behind (row all) a.1 x.1 x.0) r.front) s.1 r.are) in
+    let same : Is (Behind (production []) deepest x.1 x.0) r.front = subst (λ (n : ℕ). Is (Behind (production []) n x.1 x.0) r.front) s.2 (subst (λ (all : List Expr). Is (Behind (production all) a.1 x.1 x.0) r.front) s.1 r.are) in
     record {
       front = t.token ∷ r.front;
       is = joined ts [] ts t.token rest r.front left refl t.is r.is;
-      are = no_arguments t.token r.front row deepest x.1 x.0 t.kind same;
+      are = no_arguments t.token r.front production deepest x.1 x.0 t.kind same;
       within = λ small. let e = s.2 in r.within (omega arith);
     }
-with_arguments room deepest ts row a rest (inr s) x left r =
-    let same : Is (Behind (row s.all) a.1 x.1 x.0) r.front = subst (λ (all : List Expr). Is (Behind (row all) a.1 x.1 x.0) r.front) s.found_all r.are in
+with_arguments room deepest ts production a rest (inr s) x left r =
+    let same : Is (Behind (production s.all) a.1 x.1 x.0) r.front = subst (λ (all : List Expr). Is (Behind (production all) a.1 x.1 x.0) r.front) s.found_all r.are in
     record {
       front = s.front ++ r.front;
       is = both ts s.front rest r.front left s.is r.is;
-      are = some_arguments s.front r.front s.all row deepest a.1 x.1 x.0 s.are same;
+      are = some_arguments s.front r.front s.all production deepest a.1 x.1 x.0 s.are same;
       within = λ small. r.within (s.within small);
     }
 
-module _ (room : ℕ) (which : Mark) (one other : Row) (deepest : ℕ) (ts : List Token) where
-  taken : sees which ts ≡ true → (x : Measured) (left : List Token) → RowRead room one deepest (next ts) x left → RowRead room (choice which one other) deepest ts x left
+module _ (room : ℕ) (which : Mark) (one other : Production) (deepest : ℕ) (ts : List Token) where
+  taken : sees which ts ≡ true → (x : Measured) (left : List Token) → ProductionRead room one deepest (next ts) x left → ProductionRead room (choice which one other) deepest ts x left
   taken is x left r =
       let t = seen which ts is in
       record { front = t.token ∷ r.front; is = joined ts [] ts t.token (next ts) r.front left refl t.is r.is; are = with_choice t.token r.front which one other deepest x.1 x.0 t.kind r.are; within = r.within }
 
-  passed : (x : Measured) (left : List Token) → RowRead room other deepest ts x left → RowRead room (choice which one other) deepest ts x left
+  passed : (x : Measured) (left : List Token) → ProductionRead room other deepest ts x left → ProductionRead room (choice which one other) deepest ts x left
   passed x left r = record { front = r.front; is = r.is; are = without_choice r.front which one other deepest x.1 x.0 r.are; within = r.within }
 
-  choice_sound : Done (RowRead room one deepest (next ts)) (read_row (expr room) room deepest one (next ts)) → Done (RowRead room other deepest ts) (read_row (expr room) room deepest other ts)
-      → Done (RowRead room (choice which one other) deepest ts) (read_row (expr room) room deepest (choice which one other) ts)
+  choice_sound : Done (ProductionRead room one deepest (next ts)) (read_production (expr room) room deepest one (next ts)) → Done (ProductionRead room other deepest ts) (read_production (expr room) room deepest other ts)
+      → Done (ProductionRead room (choice which one other) deepest ts) (read_production (expr room) room deepest (choice which one other) ts)
   choice_sound s r =
-      let P : Outcome Measured → Type 0 = λ o. Done (RowRead room (choice which one other) deepest ts) o in
+      let P : Outcome Measured → Type 0 = λ o. Done (ProductionRead room (choice which one other) deepest ts) o in
       by_test P (sees which ts) _ _
       (λ is. by_test P (opens one) _ _
-      (λ deep. by_test P (room == 0) _ _ (λ none. tt) (λ some. map_done (RowRead room one deepest (next ts)) (RowRead room (choice which one other) deepest ts) _ s (taken is)))
-      (λ flat. map_done (RowRead room one deepest (next ts)) (RowRead room (choice which one other) deepest ts) _ s (taken is)))
-      (λ is. map_done (RowRead room other deepest ts) (RowRead room (choice which one other) deepest ts) _ r passed)
+      (λ deep. by_test P (room == 0) _ _ (λ none. tt) (λ some. map_done (ProductionRead room one deepest (next ts)) (ProductionRead room (choice which one other) deepest ts) _ s (taken is)))
+      (λ flat. map_done (ProductionRead room one deepest (next ts)) (ProductionRead room (choice which one other) deepest ts) _ s (taken is)))
+      (λ is. map_done (ProductionRead room other deepest ts) (ProductionRead room (choice which one other) deepest ts) _ r passed)
 
-pub row_sound : (room : ℕ) → Right room → (row : Row) (deepest : ℕ) (ts : List Token) → Done (RowRead room row deepest ts) (read_row (expr room) room deepest row ts)
+pub production_sound : (room : ℕ) → Right room → (production : Production) (deepest : ℕ) (ts : List Token) → Done (ProductionRead room production deepest ts) (read_production (expr room) room deepest production ts)
 unfolding arguments_in
-row_sound room right (gives tree) deepest ts = record { front = []; is = refl; are = nothing deepest tree; within = λ small. omega arith }
-row_sound room right (mark which row) deepest ts =
-    bind (λ (u : Unit {0}) rest. Takes which ts rest) (RowRead room (mark which row) deepest ts) (expect which ts) _ (expect_sound which ts)
-    (λ u rest s. map_done (RowRead room row deepest rest) (RowRead room (mark which row) deepest ts) (read_row (expr room) room deepest row rest) (row_sound room right row deepest rest)
-    (λ x left r. record { front = s.token ∷ r.front; is = joined ts [] ts s.token rest r.front left refl s.is r.is; are = a_mark s.token r.front which row deepest x.1 x.0 s.kind r.are; within = r.within }))
-row_sound room right (typed row) deepest ts =
-    bind (λ ty rest. Splits (λ front. IsType front ty) ts rest) (RowRead room (typed row) deepest ts) (type_name ts) _ (type_sound ts)
-    (λ ty rest s. map_done (RowRead room (row ty) deepest rest) (RowRead room (typed row) deepest ts) (read_row (expr room) room deepest (row ty) rest) (row_sound room right (row ty) deepest rest)
-    (λ x left r. record { front = s.front ++ r.front; is = both ts s.front rest r.front left s.is r.is; are = a_type s.front r.front ty row deepest x.1 x.0 s.are r.are; within = r.within }))
-row_sound room right (named row) deepest ts =
-    bind (λ n rest. NamedBy n ts rest) (RowRead room (named row) deepest ts) (name ts) _ (name_sound ts)
-    (λ n rest s. map_done (RowRead room (row n) deepest rest) (RowRead room (named row) deepest ts) (read_row (expr room) room deepest (row n) rest) (row_sound room right (row n) deepest rest)
+production_sound room right (gives tree) deepest ts = record { front = []; is = refl; are = nothing deepest tree; within = λ small. omega arith }
+production_sound room right (mark which production) deepest ts =
+    bind (λ (u : Unit {0}) rest. Takes which ts rest) (ProductionRead room (mark which production) deepest ts) (expect which ts) _ (expect_sound which ts)
+    (λ u rest s. map_done (ProductionRead room production deepest rest) (ProductionRead room (mark which production) deepest ts) (read_production (expr room) room deepest production rest) (production_sound room right production deepest rest)
+    (λ x left r. record { front = s.token ∷ r.front; is = joined ts [] ts s.token rest r.front left refl s.is r.is; are = a_mark s.token r.front which production deepest x.1 x.0 s.kind r.are; within = r.within }))
+production_sound room right (typed production) deepest ts =
+    bind (λ ty rest. Splits (λ front. IsType front ty) ts rest) (ProductionRead room (typed production) deepest ts) (type_name ts) _ (type_sound ts)
+    (λ ty rest s. map_done (ProductionRead room (production ty) deepest rest) (ProductionRead room (typed production) deepest ts) (read_production (expr room) room deepest (production ty) rest) (production_sound room right (production ty) deepest rest)
+    (λ x left r. record { front = s.front ++ r.front; is = both ts s.front rest r.front left s.is r.is; are = a_type s.front r.front ty production deepest x.1 x.0 s.are r.are; within = r.within }))
+production_sound room right (named production) deepest ts =
+    bind (λ n rest. NamedBy n ts rest) (ProductionRead room (named production) deepest ts) (name ts) _ (name_sound ts)
+    (λ n rest s. map_done (ProductionRead room (production n) deepest rest) (ProductionRead room (named production) deepest ts) (read_production (expr room) room deepest (production n) rest) (production_sound room right (production n) deepest rest)
     (λ x left r. record {
       front = s.token ∷ r.front;
       is = joined ts [] ts s.token rest r.front left refl s.is r.is;
-      are = a_name s.token r.front s.text row deepest x.1 x.0 s.kind (subst (λ (m : Name). Is (Behind (row m) deepest x.1 x.0) r.front) s.name r.are);
+      are = a_name s.token r.front s.text production deepest x.1 x.0 s.kind (subst (λ (m : Name). Is (Behind (production m) deepest x.1 x.0) r.front) s.name r.are);
       within = r.within;
     }))
-row_sound room right (part row) deepest ts =
-    bind (PartRead room deepest ts) (RowRead room (part row) deepest ts) (part_in (expr room) room deepest ts) _ (part_sound room right deepest ts)
-    (λ a rest s. map_done (RowRead room (row a.0) a.1 rest) (RowRead room (part row) deepest ts) (read_row (expr room) room a.1 (row a.0) rest) (row_sound room right (row a.0) a.1 rest)
+production_sound room right (part production) deepest ts =
+    bind (PartRead room deepest ts) (ProductionRead room (part production) deepest ts) (part_in (expr room) room deepest ts) _ (part_sound room right deepest ts)
+    (λ a rest s. map_done (ProductionRead room (production a.0) a.1 rest) (ProductionRead room (part production) deepest ts) (read_production (expr room) room a.1 (production a.0) rest) (production_sound room right (production a.0) a.1 rest)
     (λ x left r. record {
       front = s.front ++ r.front;
       is = both ts s.front rest r.front left s.is r.is;
-      are = a_part s.front r.front a.0 row s.depth deepest x.1 x.0 s.part (subst (λ (n : ℕ). Is (Behind (row a.0) n x.1 x.0) r.front) s.deeper r.are);
+      are = a_part s.front r.front a.0 production s.depth deepest x.1 x.0 s.part (subst (λ (n : ℕ). Is (Behind (production a.0) n x.1 x.0) r.front) s.deeper r.are);
       within = λ small. let w = s.within in let e = s.deeper in r.within (omega arith);
     }))
-row_sound room right (arguments row) deepest ts =
-    bind (ArgumentsOrNone room deepest ts) (RowRead room (arguments row) deepest ts) (arguments_in (expr room) room deepest ts) _ (arguments_sound room right deepest ts)
-    (λ a rest s. map_done (RowRead room (row a.0) a.1 rest) (RowRead room (arguments row) deepest ts) (read_row (expr room) room a.1 (row a.0) rest) (row_sound room right (row a.0) a.1 rest)
-    (λ x left r. with_arguments room deepest ts row a rest s x left r))
-row_sound room right (choice which one other) deepest ts = choice_sound room which one other deepest ts (row_sound room right one deepest (next ts)) (row_sound room right other deepest ts)
+production_sound room right (arguments production) deepest ts =
+    bind (ArgumentsOrNone room deepest ts) (ProductionRead room (arguments production) deepest ts) (arguments_in (expr room) room deepest ts) _ (arguments_sound room right deepest ts)
+    (λ a rest s. map_done (ProductionRead room (production a.0) a.1 rest) (ProductionRead room (arguments production) deepest ts) (read_production (expr room) room a.1 (production a.0) rest) (production_sound room right (production a.0) a.1 rest)
+    (λ x left r. with_arguments room deepest ts production a rest s x left r))
+production_sound room right (choice which one other) deepest ts = choice_sound room which one other deepest ts (production_sound room right one deepest (next ts)) (production_sound room right other deepest ts)

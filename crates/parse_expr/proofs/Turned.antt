@@ -4,9 +4,9 @@ use Rattle.fb_lexer.specs.declared.token.Token.{Token}
 use Rattle.parse_expr.specs.declared.kinds.Operator.{Operator}
 use Rattle.parse_expr.specs.declared.kinds.Suffix.{Suffix}
 use Rattle.parse_expr.specs.Reading.{first, next, Outcome, Reader, and_then}
-use Rattle.parse_expr.specs.Rows.{suffix_row}
+use Rattle.parse_expr.specs.Productions.{suffix_production}
 use Rattle.parse_expr.specs.Expr.{Measured, expr, suffix_at, suffix_by, suffixed, suffixes_from, suffixes, operated, climb_by, climb_from, climb, operator_at}
-use Rattle.parse_expr.proofs.Sound.{Done, bind, by_test, map_done, IsRead, RowRead, row_sound}
+use Rattle.parse_expr.proofs.Sound.{Done, bind, by_test, map_done, IsRead, ProductionRead, production_sound}
 use Rattle.parse_expr.proofs.Levels.{small, comes}
 use Rattle.parse_expr.proofs.Climbs.{right, goes_on, shorter}
 
@@ -32,7 +32,7 @@ module _ (room : ℕ) where
       let P : Reader Measured → Type 0 = λ p. Done (Shorter ts) (p ts) in
       let g = goes_on ts kind at in
       by_test P (nat_lt room x.1) _ _ (λ is. tt)
-      (λ fits. map_done (RowRead room (suffix_row x.0 kind) x.1 (next ts)) (Shorter ts) _ (row_sound room (right room) (suffix_row x.0 kind) x.1 (next ts))
+      (λ fits. map_done (ProductionRead room (suffix_production x.0 kind) x.1 (next ts)) (Shorter ts) _ (production_sound room (right room) (suffix_production x.0 kind) x.1 (next ts))
       (λ y rest s. shorter ts (next ts) s.front rest g.token g.is s.is))
 
   suffix_turn : (n m : ℕ) (x : Measured) (ts : List Token) (o : Option Suffix) → suffix_at (first ts) ≡ o → length ts ≤ suc n → length ts ≤ suc m

@@ -16,13 +16,13 @@ use Rattle.fb_ast.specs.declared.part.Name.{Name}
 use Rattle.fb_ast.specs.declared.operator.Unary.{Unary}
 use Rattle.parse_expr.specs.declared.kinds.Operator.{Operator}
 use Rattle.parse_expr.specs.declared.kinds.Suffix.{Suffix}
-use Rattle.parse_expr.specs.declared.stop.Stop.{Stop}
-use Rattle.parse_expr.specs.declared.stop.Stop.TheVariants as stops
+use Rattle.parse_expr.specs.declared.error.ReadErr.{ReadErr}
+use Rattle.parse_expr.specs.declared.error.ReadErr.TheVariants as read_errs
 use Rattle.parse_expr.specs.Words.{prefix_of, is_pointer, base_of, suffix_of, binary_of}
 use Rattle.parse_expr.specs.Reading.{first, next, is_mark, holds, sees, expect, refusal, refuse, Outcome, Reader, and_then}
 use Rattle.parse_expr.specs.Types.{pointers, behind_pointers, type_name, type_at, type_from, name, name_at, name_by}
-use Rattle.parse_expr.specs.Rows.{Row, gives, mark, typed, named, part, arguments, choice, Start, Leaf, Inner, Nothing, start_of, suffix_row, begins_some}
-use Rattle.parse_expr.specs.Expr.{Measured, expr, part_in, arguments_from, arguments_in, read_row, opens, started, primary, suffix_at, suffix_by, suffixed, suffixes_from, suffixes, prefixed, operand, operand_by, operand_at, operated, climb_by, climb_from, climb, level, operator_at, at_level, begins, begins_as, no_room}
+use Rattle.parse_expr.specs.Productions.{Production, gives, mark, typed, named, part, arguments, choice, Start, Leaf, Inner, Nothing, start_of, suffix_production, begins_some}
+use Rattle.parse_expr.specs.Expr.{Measured, expr, part_in, arguments_from, arguments_in, read_production, opens, started, primary, suffix_at, suffix_by, suffixed, suffixes_from, suffixes, prefixed, operand, operand_by, operand_at, operated, climb_by, climb_from, climb, level, operator_at, at_level, begins, begins_as, no_room}
 use Rattle.parse_expr.specs.Faults.{is_refused_kind}
 use Rattle.parse_expr.proofs.Turned.{suffix_turns, climb_turns}
 use Rattle.parse_expr.proofs.Ends.{Suffixes, same_end, end_of_end, no_longer, Leaves, further, argument_turns, with_right, with_prefix}
@@ -36,7 +36,7 @@ use Rattle.parse_expr.proofs.Begun.{start_opened}
 -- what comes next goes on with nothing
 pub record Weak (o : Option Token) : Type 0 where
   pub mark : (which : Mark) → holds (is_mark which) o ≡ false
-  pub named : (ts : List Token) → name_at o ts ≡ Err (stops.Fault Expected, ts)
+  pub named : (ts : List Token) → name_at o ts ≡ Err (read_errs.Fault Expected, ts)
   pub suffix : suffix_at o ≡ None
   pub operator : (least : ℕ) → operator_at least o ≡ None
   pub pointer : holds is_pointer o ≡ false
@@ -62,7 +62,7 @@ weak_free t (inr n) = record {
 
 -- an error at the first token
 pub record ErrAt {A : Type 0} (o : Outcome A) (ts : List Token) : Type 0 where
-  pub stop : Stop
+  pub stop : ReadErr
   pub is : o ≡ Err (stop, ts)
 
 -- what comes next begins nothing
@@ -72,13 +72,13 @@ pub record Empty (o : Option Token) : Type 0 where
   pub no_begin : (least : ℕ) → begins least o ≡ false
 
 empty_none : Empty None
-empty_none = record { no_type = λ ts. record { stop = stops.Fault (refusal ts); is = refl }; no_operand = λ room least ts. record { stop = stops.Fault (refusal ts); is = refl }; no_begin = λ least. refl }
+empty_none = record { no_type = λ ts. record { stop = read_errs.Fault (refusal ts); is = refl }; no_operand = λ room least ts. record { stop = read_errs.Fault (refusal ts); is = refl }; no_begin = λ least. refl }
 
 empty_by : (u : Token) → base_of u.kind ≡ None → prefix_of u.kind ≡ None → ((at : Span) → start_of at u.kind ≡ Nothing) → Empty (Some u)
 unfolding primary
 empty_by u b p st = record {
-  no_type = λ ts. record { stop = stops.Fault (refusal ts); is = rw b refl };
-  no_operand = λ room least ts. record { stop = stops.Fault (refusal ts); is = rw (p, st u.at) refl };
+  no_type = λ ts. record { stop = read_errs.Fault (refusal ts); is = rw b refl };
+  no_operand = λ room least ts. record { stop = read_errs.Fault (refusal ts); is = rw (p, st u.at) refl };
   no_begin = λ least. rw (p, st (record { line = 1; col = 1 })) refl;
 }
 
@@ -96,18 +96,18 @@ pub record Gap (L : FaultKind → Type 0) (t : Token) (v : List Token) : Type 0 
   pub nothing : Empty (first v) ⊎ (L OutOfProfile × (is_refused_kind t.kind ≡ true))
 
 -- the same token stands there in both lists, or there is a gap
-abbrev pub Place : (FaultKind → Type 0) → Token → List Token → Type 0
-Place L t v = (first v ≡ Some t) ⊎ Gap L t v
+abbrev pub Position : (FaultKind → Type 0) → Token → List Token → Type 0
+Position L t v = (first v ≡ Some t) ⊎ Gap L t v
 
-pub same_place : (L : FaultKind → Type 0) (t : Token) (more : List Token) → Place L t (t ∷ more)
+pub same_place : (L : FaultKind → Type 0) (t : Token) (more : List Token) → Position L t (t ∷ more)
 unfolding first
 same_place L t more = inl refl
 
-pub cut_place : (L : FaultKind → Type 0) (t : Token) → L DeepNesting → Place L t []
+pub cut_place : (L : FaultKind → Type 0) (t : Token) → L DeepNesting → Position L t []
 unfolding first
 cut_place L t deep = inr (record { weak = weak_none; deep = deep; nothing = inl empty_none })
 
-pub other_place : (L : FaultKind → Type 0) (t u : Token) (more : List Token) → L DeepNesting → L OutOfProfile → is_refused_kind t.kind ≡ true → IsFree u → Place L t (u ∷ more)
+pub other_place : (L : FaultKind → Type 0) (t u : Token) (more : List Token) → L DeepNesting → L OutOfProfile → is_refused_kind t.kind ≡ true → IsFree u → Position L t (u ∷ more)
 unfolding first
 other_place L t u more deep out word free = inr (record { weak = weak_free u free; deep = deep; nothing = inr (out, word) })
 
@@ -133,14 +133,14 @@ lt_guards L room other n (inl is) = inl (ap (λ (m : ℕ). nat_lt m n) is)
 lt_guards L room other n (inr more) = inr (more.0, lt_later room other n more.1)
 
 -- Two lists of tokens with one front, and what stands behind it in each.
-module _ (L : FaultKind → Type 0) (t : Token) (s v : List Token) (place : Place L t v) where
+module _ (L : FaultKind → Type 0) (t : Token) (s v : List Token) (place : Position L t v) where
   pub data Alike : List Token → List Token → Type 0 where
     here : Alike (t ∷ s) v
     there : (x : Token) (ts us : List Token) → Alike ts us → Alike (x ∷ ts) (x ∷ us)
 
-  abbrev pub Loose : Stop → Type 0
-  Loose stops.NoMemory = ⊥
-  Loose (stops.Fault kind) = L kind
+  abbrev pub Loose : ReadErr → Type 0
+  Loose read_errs.NoMemory = ⊥
+  Loose (read_errs.Fault kind) = L kind
 
   -- the reading went on behind the place, or it ends in a fault of such a kind
   abbrev pub Gone : {A : Type 0} → Outcome A → Type 0
@@ -150,7 +150,7 @@ module _ (L : FaultKind → Type 0) (t : Token) (s v : List Token) (place : Plac
   -- both readings end alike
   abbrev pub Same : {A : Type 0} → Outcome A → Outcome A → Type 0
   Same (Ok p) o = (r : List Token) × (o ≡ Ok (p.0, r)) × Alike p.1 r
-  Same (Err p) o = (stop : Stop) × (r : List Token) × (o ≡ Err (stop, r)) × Alike p.1 r
+  Same (Err p) o = (stop : ReadErr) × (r : List Token) × (o ≡ Err (stop, r)) × Alike p.1 r
 
   abbrev pub Near : {A : Type 0} → Outcome A → Outcome A → Type 0
   Near o other = Gone o ⊎ Same o other
@@ -168,10 +168,10 @@ module _ (L : FaultKind → Type 0) (t : Token) (s v : List Token) (place : Plac
   pub twin_pure : {A : Type 0} (a : A) → Twin (λ (ts : List Token). Ok (a, ts)) (λ (ts : List Token). Ok (a, ts))
   twin_pure a = record { leaves = λ ts. same_end ts; near = λ ts us al. inr (us, refl, al) }
 
-  pub twin_stop : {A : Type 0} (stop other : Stop) → Twin {A = A} (λ (ts : List Token). Err (stop, ts)) (λ (ts : List Token). Err (other, ts))
+  pub twin_stop : {A : Type 0} (stop other : ReadErr) → Twin {A = A} (λ (ts : List Token). Err (stop, ts)) (λ (ts : List Token). Err (other, ts))
   twin_stop stop other = record { leaves = λ ts. same_end ts; near = λ ts us al. inr (other, us, refl, al) }
 
-  pub twin_loose : {A : Type 0} (kind : FaultKind) (q : Reader A) → L kind → Twin (λ (ts : List Token). Err (stops.Fault kind, ts)) q
+  pub twin_loose : {A : Type 0} (kind : FaultKind) (q : Reader A) → L kind → Twin (λ (ts : List Token). Err (read_errs.Fault kind, ts)) q
   twin_loose kind q loose = record { leaves = λ ts. same_end ts; near = λ ts us al. inl (inr loose) }
 
   leaves_then : {A B : Type 0} (ts : List Token) (o : Outcome A) (f : A → Reader B) → Leaves ts o → ((a : A) (rest : List Token) → Leaves rest (f a rest)) → Leaves ts (and_then o f)
@@ -202,8 +202,8 @@ module _ (L : FaultKind → Type 0) (t : Token) (s v : List Token) (place : Plac
   twin_if false p q p' q' g h = h
 
   -- behind a look at the depth
-  guard_by : {A : Type 0} (b c : Bool) (p p' : Reader A) → Guards L b c → Twin p p' → Twin (if b then (λ (ts : List Token). Err (stops.Fault DeepNesting, ts)) else p) (if c then (λ (ts : List Token). Err (stops.Fault DeepNesting, ts)) else p')
-  guard_by true true p p' g h = twin_stop (stops.Fault DeepNesting) (stops.Fault DeepNesting)
+  guard_by : {A : Type 0} (b c : Bool) (p p' : Reader A) → Guards L b c → Twin p p' → Twin (if b then (λ (ts : List Token). Err (read_errs.Fault DeepNesting, ts)) else p) (if c then (λ (ts : List Token). Err (read_errs.Fault DeepNesting, ts)) else p')
+  guard_by true true p p' g h = twin_stop (read_errs.Fault DeepNesting) (read_errs.Fault DeepNesting)
   guard_by true false p p' (inl is) h = cc
   guard_by true false p p' (inr more) h = twin_loose DeepNesting p' more.0
   guard_by false true p p' (inl is) h = cc
@@ -212,7 +212,7 @@ module _ (L : FaultKind → Type 0) (t : Token) (s v : List Token) (place : Plac
 
   -- ---- the next token
 
-  near_look : {A : Type 0} (g h : Option Token → Reader A) → ((o : Option Token) → Twin (g o) (h o)) → Place L t v → (Gap L t v → Near (g (Some t) (t ∷ s)) (h (first v) v)) → Near (g (Some t) (t ∷ s)) (h (first v) v)
+  near_look : {A : Type 0} (g h : Option Token → Reader A) → ((o : Option Token) → Twin (g o) (h o)) → Position L t v → (Gap L t v → Near (g (Some t) (t ∷ s)) (h (first v) v)) → Near (g (Some t) (t ∷ s)) (h (first v) v)
   near_look g h k (inl same) gap = subst (λ (o : Option Token). Near (g (Some t) (t ∷ s)) (h o v)) (sym same) ((k (Some t)).near (t ∷ s) v here)
   near_look g h k (inr q) gap = gap q
 
@@ -271,44 +271,44 @@ module _ (L : FaultKind → Type 0) (t : Token) (s v : List Token) (place : Plac
       let done : Unit {0} = tt in
       let took : Reader (Unit {0}) = λ ts. Ok (done, next ts) in
       let kept : Reader (Unit {0}) = λ ts. Ok (done, ts) in
-      let wrong : Reader (Unit {0}) = λ ts. Err (stops.Fault Expected, ts) in
-      twin_mark which took wrong took wrong (twin_take done) (λ gap. eaten kept kept (twin_pure done)) (twin_stop (stops.Fault Expected) (stops.Fault Expected))
+      let wrong : Reader (Unit {0}) = λ ts. Err (read_errs.Fault Expected, ts) in
+      twin_mark which took wrong took wrong (twin_take done) (λ gap. eaten kept kept (twin_pure done)) (twin_stop (read_errs.Fault Expected) (read_errs.Fault Expected))
 
   pub twin_refuse : {A : Type 0} → Twin (refuse {A = A}) (refuse {A = A})
-  twin_refuse = record { leaves = λ ts. same_end ts; near = λ ts us al. inr (stops.Fault (refusal us), us, refl, al) }
+  twin_refuse = record { leaves = λ ts. same_end ts; near = λ ts us al. inr (read_errs.Fault (refusal us), us, refl, al) }
 
-  loose_refusal : (A : Type 0) → L OutOfProfile → is_refused_kind t.kind ≡ true → Gone {A = A} (Err (stops.Fault (refusal (t ∷ s)), t ∷ s))
+  loose_refusal : (A : Type 0) → L OutOfProfile → is_refused_kind t.kind ≡ true → Gone {A = A} (Err (read_errs.Fault (refusal (t ∷ s)), t ∷ s))
   unfolding refusal first
   loose_refusal A out word = let n = nowhere t.kind word in inr (subst (λ (k : FaultKind). L k) (sym n.refusal) out)
 
   -- a refusal at the place, where the second reading refuses nothing at all
-  pub refuse_near : {A : Type 0} (other : Outcome A) → Gap L t v → (Empty (first v) → ErrAt other v) → Near (Err (stops.Fault (refusal (t ∷ s)), t ∷ s)) other
+  pub refuse_near : {A : Type 0} (other : Outcome A) → Gap L t v → (Empty (first v) → ErrAt other v) → Near (Err (read_errs.Fault (refusal (t ∷ s)), t ∷ s)) other
   refuse_near {A = A} other gap none = elim gap.nothing [ inl is ↦ inr ((none is).stop, v, (none is).is, here) | inr r ↦ inl (loose_refusal A r.0 r.1) ]
 
   -- ---- names and types
 
   twin_name_by : (at : Span) (kind : TokenKind) → Twin (name_by at kind) (name_by at kind)
   twin_name_by at (kinds.Name text) = twin_take (record { at = at; text = text })
-  twin_name_by at (kinds.Mark which) = twin_stop (stops.Fault Expected) (stops.Fault Expected)
-  twin_name_by at (kinds.Word word) = twin_stop (stops.Fault Expected) (stops.Fault Expected)
-  twin_name_by at (kinds.Number value) = twin_stop (stops.Fault Expected) (stops.Fault Expected)
-  twin_name_by at (kinds.Str text) = twin_stop (stops.Fault Expected) (stops.Fault Expected)
-  twin_name_by at kinds.Colon = twin_stop (stops.Fault Expected) (stops.Fault Expected)
-  twin_name_by at kinds.LineEnd = twin_stop (stops.Fault Expected) (stops.Fault Expected)
+  twin_name_by at (kinds.Mark which) = twin_stop (read_errs.Fault Expected) (read_errs.Fault Expected)
+  twin_name_by at (kinds.Word word) = twin_stop (read_errs.Fault Expected) (read_errs.Fault Expected)
+  twin_name_by at (kinds.Number value) = twin_stop (read_errs.Fault Expected) (read_errs.Fault Expected)
+  twin_name_by at (kinds.Str text) = twin_stop (read_errs.Fault Expected) (read_errs.Fault Expected)
+  twin_name_by at kinds.Colon = twin_stop (read_errs.Fault Expected) (read_errs.Fault Expected)
+  twin_name_by at kinds.LineEnd = twin_stop (read_errs.Fault Expected) (read_errs.Fault Expected)
 
   twin_name_at : (o : Option Token) → Twin (name_at o) (name_at o)
-  twin_name_at None = twin_stop (stops.Fault Expected) (stops.Fault Expected)
+  twin_name_at None = twin_stop (read_errs.Fault Expected) (read_errs.Fault Expected)
   twin_name_at (Some x) = twin_name_by x.at x.kind
 
-  name_near : (at : Span) (kind : TokenKind) (other : Outcome Name) → other ≡ Err (stops.Fault Expected, v) → Near (name_by at kind (t ∷ s)) other
+  name_near : (at : Span) (kind : TokenKind) (other : Outcome Name) → other ≡ Err (read_errs.Fault Expected, v) → Near (name_by at kind (t ∷ s)) other
   unfolding next
   name_near at (kinds.Name text) other is = inl (omega arith)
-  name_near at (kinds.Mark which) other is = inr (stops.Fault Expected, v, is, here)
-  name_near at (kinds.Word word) other is = inr (stops.Fault Expected, v, is, here)
-  name_near at (kinds.Number value) other is = inr (stops.Fault Expected, v, is, here)
-  name_near at (kinds.Str text) other is = inr (stops.Fault Expected, v, is, here)
-  name_near at kinds.Colon other is = inr (stops.Fault Expected, v, is, here)
-  name_near at kinds.LineEnd other is = inr (stops.Fault Expected, v, is, here)
+  name_near at (kinds.Mark which) other is = inr (read_errs.Fault Expected, v, is, here)
+  name_near at (kinds.Word word) other is = inr (read_errs.Fault Expected, v, is, here)
+  name_near at (kinds.Number value) other is = inr (read_errs.Fault Expected, v, is, here)
+  name_near at (kinds.Str text) other is = inr (read_errs.Fault Expected, v, is, here)
+  name_near at kinds.Colon other is = inr (read_errs.Fault Expected, v, is, here)
+  name_near at kinds.LineEnd other is = inr (read_errs.Fault Expected, v, is, here)
 
   pub twin_name : Twin name name
   unfolding name
@@ -327,7 +327,7 @@ module _ (L : FaultKind → Type 0) (t : Token) (s v : List Token) (place : Plac
   abbrev PointersNear : List Token → List Token → Type 0
   PointersNear ts us = (length (behind_pointers ts) ≤ length s) ⊎ ((pointers ts ≡ pointers us) × Alike (behind_pointers ts) (behind_pointers us))
 
-  unpointed_place : Place L t v → is_pointer t.kind ≡ false → holds is_pointer (first v) ≡ false
+  unpointed_place : Position L t v → is_pointer t.kind ≡ false → holds is_pointer (first v) ≡ false
   unpointed_place (inl same) is = ap (holds is_pointer) same ∙ is
   unpointed_place (inr gap) is = gap.weak.pointer
 
@@ -422,44 +422,44 @@ module _ (L : FaultKind → Type 0) (t : Token) (s v : List Token) (place : Plac
         twin_mark Close took (λ ts. arguments_from (expr room) room (length ts) [] deepest ts) took (λ ts. arguments_from (expr other) other (length ts) [] deepest ts)
         (twin_take none) (λ gap. eaten kept kept (twin_pure none)) (twin_some deepest)
 
-    -- the first row of a choice, behind its mark
-    abbrev Chosen : ℕ → Row → ℕ → Reader Measured
-    Chosen r one deepest = λ ts. if opens one then (if r == 0 then Err (stops.Fault DeepNesting, ts) else read_row (expr r) r deepest one (next ts)) else read_row (expr r) r deepest one (next ts)
+    -- the first production of a choice, behind its mark
+    abbrev Chosen : ℕ → Production → ℕ → Reader Measured
+    Chosen r one deepest = λ ts. if opens one then (if r == 0 then Err (read_errs.Fault DeepNesting, ts) else read_production (expr r) r deepest one (next ts)) else read_production (expr r) r deepest one (next ts)
 
-    guarded_by : {A : Type 0} (b c : Bool) (p p' : Reader A) → Guards L b c → Twin p p' → Twin (λ (ts : List Token). if b then Err (stops.Fault DeepNesting, ts) else p ts) (λ (ts : List Token). if c then Err (stops.Fault DeepNesting, ts) else p' ts)
-    guarded_by true true p p' g h = twin_stop (stops.Fault DeepNesting) (stops.Fault DeepNesting)
+    guarded_by : {A : Type 0} (b c : Bool) (p p' : Reader A) → Guards L b c → Twin p p' → Twin (λ (ts : List Token). if b then Err (read_errs.Fault DeepNesting, ts) else p ts) (λ (ts : List Token). if c then Err (read_errs.Fault DeepNesting, ts) else p' ts)
+    guarded_by true true p p' g h = twin_stop (read_errs.Fault DeepNesting) (read_errs.Fault DeepNesting)
     guarded_by true false p p' (inl is) h = cc
     guarded_by true false p p' (inr more) h = twin_loose DeepNesting p' more.0
     guarded_by false true p p' (inl is) h = cc
     guarded_by false true p p' (inr more) h = let same : true ≡ false = more.1 refl in cc
     guarded_by false false p p' g h = h
 
-    twin_row : (row : Row) (deepest : ℕ) → Twin (read_row (expr room) room deepest row) (read_row (expr other) other deepest row)
-    twin_row (gives tree) deepest = twin_pure (tree, deepest + 1)
-    twin_row (mark which row) deepest = twin_then (expect which) (expect which) _ _ (twin_expect which) (λ done. twin_row row deepest)
-    twin_row (typed row) deepest = twin_then type_name type_name _ _ twin_type (λ ty. twin_row (row ty) deepest)
-    twin_row (named row) deepest = twin_then name name _ _ twin_name (λ n. twin_row (row n) deepest)
-    twin_row (part row) deepest = twin_then (part_in (expr room) room deepest) (part_in (expr other) other deepest) _ _ (twin_part deepest) (λ x. twin_row (row x.0) x.1)
-    twin_row (arguments row) deepest = twin_then (arguments_in (expr room) room deepest) (arguments_in (expr other) other deepest) _ _ (twin_arguments deepest) (λ x. twin_row (row x.0) x.1)
-    twin_row (choice which one two) deepest =
-        let behind = twin_next (read_row (expr room) room deepest one) (read_row (expr other) other deepest one) (twin_row one deepest) in
-        let gone = eaten (read_row (expr room) room deepest one) (read_row (expr other) other deepest one) (twin_row one deepest) in
-        twin_mark which (Chosen room one deepest) (read_row (expr room) room deepest two) (Chosen other one deepest) (read_row (expr other) other deepest two)
+    twin_production : (production : Production) (deepest : ℕ) → Twin (read_production (expr room) room deepest production) (read_production (expr other) other deepest production)
+    twin_production (gives tree) deepest = twin_pure (tree, deepest + 1)
+    twin_production (mark which production) deepest = twin_then (expect which) (expect which) _ _ (twin_expect which) (λ done. twin_production production deepest)
+    twin_production (typed production) deepest = twin_then type_name type_name _ _ twin_type (λ ty. twin_production (production ty) deepest)
+    twin_production (named production) deepest = twin_then name name _ _ twin_name (λ n. twin_production (production n) deepest)
+    twin_production (part production) deepest = twin_then (part_in (expr room) room deepest) (part_in (expr other) other deepest) _ _ (twin_part deepest) (λ x. twin_production (production x.0) x.1)
+    twin_production (arguments production) deepest = twin_then (arguments_in (expr room) room deepest) (arguments_in (expr other) other deepest) _ _ (twin_arguments deepest) (λ x. twin_production (production x.0) x.1)
+    twin_production (choice which one two) deepest =
+        let behind = twin_next (read_production (expr room) room deepest one) (read_production (expr other) other deepest one) (twin_production one deepest) in
+        let gone = eaten (read_production (expr room) room deepest one) (read_production (expr other) other deepest one) (twin_production one deepest) in
+        twin_mark which (Chosen room one deepest) (read_production (expr room) room deepest two) (Chosen other one deepest) (read_production (expr other) other deepest two)
         (twin_test (opens one) _ _ _ _ (guarded_by (room == 0) (other == 0) _ _ (zero_guards L room other rooms) behind) behind)
         (λ gap. gone_if (opens one) _ _ (gone_if (room == 0) _ _ (inr gap.deep) gone) gone)
-        (twin_row two deepest)
+        (twin_production two deepest)
 
     twin_started : (start : Start) → Twin (started (expr room) room start) (started (expr other) other start)
-    twin_started (Leaf row) = twin_next _ _ (twin_row row 0)
-    twin_started (Inner row) = guard_by (room == 0) (other == 0) _ _ (zero_guards L room other rooms) (twin_next (read_row (expr room) room 0 row) (read_row (expr other) other 0 row) (twin_row row 0))
+    twin_started (Leaf production) = twin_next _ _ (twin_production production 0)
+    twin_started (Inner production) = guard_by (room == 0) (other == 0) _ _ (zero_guards L room other rooms) (twin_next (read_production (expr room) room 0 production) (read_production (expr other) other 0 production) (twin_production production 0))
     twin_started Nothing = twin_refuse
 
     twin_suffixed : (x : Measured) (kind : Suffix) → Twin (suffixed (expr room) room x kind) (suffixed (expr other) other x kind)
     twin_suffixed x kind =
-        guard_by (nat_lt room x.1) (nat_lt other x.1) _ _ (lt_guards L room other x.1 rooms) (twin_next (read_row (expr room) room x.1 (suffix_row x.0 kind)) (read_row (expr other) other x.1 (suffix_row x.0 kind)) (twin_row (suffix_row x.0 kind) x.1))
+        guard_by (nat_lt room x.1) (nat_lt other x.1) _ _ (lt_guards L room other x.1 rooms) (twin_next (read_production (expr room) room x.1 (suffix_production x.0 kind)) (read_production (expr other) other x.1 (suffix_production x.0 kind)) (twin_production (suffix_production x.0 kind) x.1))
 
     gone_suffixed : (x : Measured) (kind : Suffix) → L DeepNesting → Gone (suffixed (expr room) room x kind (t ∷ s))
-    gone_suffixed x kind deep = gone_reader (nat_lt room x.1) _ _ (t ∷ s) (inr deep) (eaten (read_row (expr room) room x.1 (suffix_row x.0 kind)) (read_row (expr other) other x.1 (suffix_row x.0 kind)) (twin_row (suffix_row x.0 kind) x.1))
+    gone_suffixed x kind deep = gone_reader (nat_lt room x.1) _ _ (t ∷ s) (inr deep) (eaten (read_production (expr room) room x.1 (suffix_production x.0 kind)) (read_production (expr other) other x.1 (suffix_production x.0 kind)) (twin_production (suffix_production x.0 kind) x.1))
 
     twin_suffix_by : (n : ℕ) (x : Measured) (o : Option Suffix) → ((y : Measured) → Twin (suffixes_from (expr room) room n y) (suffixes_from (expr other) other n y))
         → Twin (suffix_by (expr room) room o x (suffixes_from (expr room) room n)) (suffix_by (expr other) other o x (suffixes_from (expr other) other n))
@@ -575,19 +575,19 @@ module _ (L : FaultKind → Type 0) (t : Token) (s v : List Token) (place : Plac
     gone_or_then {A = A} o f (inr e) k = inr (record { stop = e.stop; is = ap (λ (x : Outcome A). and_then x f) e.is })
 
     place_started : (start : Start) → L DeepNesting → Gone (started (expr room) room start (t ∷ s)) ⊎ ErrAt (started (expr room) room start (t ∷ s)) (t ∷ s)
-    place_started (Leaf row) deep = inl (eaten (read_row (expr room) room 0 row) (read_row (expr other) other 0 row) (twin_row row 0))
-    place_started (Inner row) deep = inl (gone_reader (room == 0) _ _ (t ∷ s) (inr deep) (eaten (read_row (expr room) room 0 row) (read_row (expr other) other 0 row) (twin_row row 0)))
-    place_started Nothing deep = inr (record { stop = stops.Fault (refusal (t ∷ s)); is = refl })
+    place_started (Leaf production) deep = inl (eaten (read_production (expr room) room 0 production) (read_production (expr other) other 0 production) (twin_production production 0))
+    place_started (Inner production) deep = inl (gone_reader (room == 0) _ _ (t ∷ s) (inr deep) (eaten (read_production (expr room) room 0 production) (read_production (expr other) other 0 production) (twin_production production 0)))
+    place_started Nothing deep = inr (record { stop = read_errs.Fault (refusal (t ∷ s)); is = refl })
 
     place_operand : (least : ℕ) (o : Option (Unary × ℕ)) → L DeepNesting → Gone (operand_by (expr room) room least t o (t ∷ s)) ⊎ ErrAt (operand_by (expr room) room least t o (t ∷ s)) (t ∷ s)
     unfolding primary
-    place_operand least (Some p) deep = gone_or_if (nat_lt p.1 least) refuse (prefixed (expr room) room t.at p.0 p.1) (inr (record { stop = stops.Fault (refusal (t ∷ s)); is = refl })) (inl (gone_prefixed t.at p.0 p.1 deep))
+    place_operand least (Some p) deep = gone_or_if (nat_lt p.1 least) refuse (prefixed (expr room) room t.at p.0 p.1) (inr (record { stop = read_errs.Fault (refusal (t ∷ s)); is = refl })) (inl (gone_prefixed t.at p.0 p.1 deep))
     place_operand least None deep = gone_or_then (started (expr room) room (start_of t.at t.kind) (t ∷ s)) (suffixes (expr room) room) (place_started (start_of t.at t.kind) deep) (λ y rest. (twin_suffixes y).leaves rest)
 
     -- at the place: the first reading has a word there that this profile doesn't have
     refused_started : (start : Start) → start ≡ Nothing → L OutOfProfile → is_refused_kind t.kind ≡ true → Gone (started (expr room) room start (t ∷ s))
-    refused_started (Leaf row) is out word = cc
-    refused_started (Inner row) is out word = cc
+    refused_started (Leaf production) is out word = cc
+    refused_started (Inner production) is out word = cc
     refused_started Nothing is out word = loose_refusal Measured out word
 
     refused_operand : (least : ℕ) (o : Option (Unary × ℕ)) → o ≡ None → L OutOfProfile → is_refused_kind t.kind ≡ true → Gone (operand_by (expr room) room least t o (t ∷ s))
@@ -612,9 +612,9 @@ module _ (L : FaultKind → Type 0) (t : Token) (s v : List Token) (place : Plac
 
   -- ---- where no expression can be deep enough
 
-  no_room_err : (least : ℕ) (ts : List Token) (b : Bool) → ErrAt {A = Measured} (if b then Err (stops.Fault DeepNesting, ts) else refuse ts) ts
-  no_room_err least ts true = record { stop = stops.Fault DeepNesting; is = refl }
-  no_room_err least ts false = record { stop = stops.Fault (refusal ts); is = refl }
+  no_room_err : (least : ℕ) (ts : List Token) (b : Bool) → ErrAt {A = Measured} (if b then Err (read_errs.Fault DeepNesting, ts) else refuse ts) ts
+  no_room_err least ts true = record { stop = read_errs.Fault DeepNesting; is = refl }
+  no_room_err least ts false = record { stop = read_errs.Fault (refusal ts); is = refl }
 
   both_err : {A : Type 0} (o other : Outcome A) (ts us : List Token) → ErrAt o ts → ErrAt other us → Alike ts us → Near o other
   both_err {A = A} o other ts us p q al = subst (λ (x : Outcome A). Near x other) (sym p.is) (inr (q.stop, us, q.is, al))
@@ -637,9 +637,9 @@ module _ (L : FaultKind → Type 0) (t : Token) (s v : List Token) (place : Plac
   too_loose k least is = grind (arith, nat_tests)
 
   not_started : (r : ℕ) (us : List Token) (start : Start) → begins_some start ≡ false → ErrAt (and_then (started (expr r) r start us) (suffixes (expr r) r)) us
-  not_started r us (Leaf row) is = cc
-  not_started r us (Inner row) is = cc
-  not_started r us Nothing is = record { stop = stops.Fault (refusal us); is = refl }
+  not_started r us (Leaf production) is = cc
+  not_started r us (Inner production) is = cc
+  not_started r us Nothing is = record { stop = read_errs.Fault (refusal us); is = refl }
 
   err_if : (b : Bool) (p q : Reader Measured) (us : List Token) → b ≡ true → ErrAt (p us) us → ErrAt ((if b then p else q) us) us
   err_if true p q us is e = e
@@ -647,18 +647,18 @@ module _ (L : FaultKind → Type 0) (t : Token) (s v : List Token) (place : Plac
 
   not_begun_by : (r least : ℕ) (x : Token) (us : List Token) (o : Option (Unary × ℕ)) → begins_as least x o ≡ false → ErrAt (operand_by (expr r) r least x o us) us
   unfolding primary
-  not_begun_by r least x us (Some p) is = err_if (nat_lt p.1 least) refuse (prefixed (expr r) r x.at p.0 p.1) us (too_loose p.1 least is) (record { stop = stops.Fault (refusal us); is = refl })
+  not_begun_by r least x us (Some p) is = err_if (nat_lt p.1 least) refuse (prefixed (expr r) r x.at p.0 p.1) us (too_loose p.1 least is) (record { stop = read_errs.Fault (refusal us); is = refl })
   not_begun_by r least x us None is = not_started r us (start_of x.at x.kind) (start_opened x.at (record { line = 1; col = 1 }) x.kind ∙ is)
 
   not_begun_at : (r least : ℕ) (us : List Token) (o : Option Token) → begins least o ≡ false → ErrAt (operand_at (expr r) r least o us) us
-  not_begun_at r least us None is = record { stop = stops.Fault (refusal us); is = refl }
+  not_begun_at r least us None is = record { stop = read_errs.Fault (refusal us); is = refl }
   not_begun_at r least us (Some x) is = not_begun_by r least x us (prefix_of x.kind) is
 
   pub not_begun : (r least : ℕ) (us : List Token) → begins least (first us) ≡ false → ErrAt (expr (suc r) least us) us
   unfolding expr level operand
   not_begun r least us is = refuses_then r least us (operand_at (expr r) r least (first us) us) (not_begun_at r least us (first us) is)
 
-  deeper_place : (r least : ℕ) → Place L t v → begins least (Some t) ≡ false → Near (refuse {A = Measured} (t ∷ s)) (expr (suc r) least v)
+  deeper_place : (r least : ℕ) → Position L t v → begins least (Some t) ≡ false → Near (refuse {A = Measured} (t ∷ s)) (expr (suc r) least v)
   deeper_place r least (inl same) is = let e = not_begun r least v (ap (begins least) same ∙ is) in inr (e.stop, v, e.is, here)
   deeper_place r least (inr gap) is = refuse_near (expr (suc r) least v) gap (λ e. not_begun r least v (e.no_begin least))
 
@@ -667,7 +667,7 @@ module _ (L : FaultKind → Type 0) (t : Token) (s v : List Token) (place : Plac
   deeper_alike r least ts us here is = deeper_place r least place is
   deeper_alike r least ts us (there x a b al) is = let e = not_begun r least (x ∷ b) is in inr (e.stop, x ∷ b, e.is, there x a b al)
 
-  deeper_if : (r least : ℕ) (ts us : List Token) → L DeepNesting → Alike ts us → (b : Bool) → begins least (first ts) ≡ b → Near {A = Measured} (if b then Err (stops.Fault DeepNesting, ts) else refuse ts) (expr (suc r) least us)
+  deeper_if : (r least : ℕ) (ts us : List Token) → L DeepNesting → Alike ts us → (b : Bool) → begins least (first ts) ≡ b → Near {A = Measured} (if b then Err (read_errs.Fault DeepNesting, ts) else refuse ts) (expr (suc r) least us)
   deeper_if r least ts us deep al true is = inl (inr deep)
   deeper_if r least ts us deep al false is = deeper_alike r least ts us al is
 
@@ -695,8 +695,8 @@ module _ (L : FaultKind → Type 0) (t : Token) (s v : List Token) (place : Plac
   inner_twin r l = twins r r (inl refl) l
 
   started_gone : (r : ℕ) (start : Start) → begins_some start ≡ true → L DeepNesting → Gone (started (expr r) r start (t ∷ s))
-  started_gone r (Leaf row) is deep = eaten (read_row (expr r) r 0 row) (read_row (expr r) r 0 row) (twin_row r r (inl refl) (inner_twin r) row 0)
-  started_gone r (Inner row) is deep = gone_reader (r == 0) _ _ (t ∷ s) (inr deep) (eaten (read_row (expr r) r 0 row) (read_row (expr r) r 0 row) (twin_row r r (inl refl) (inner_twin r) row 0))
+  started_gone r (Leaf production) is deep = eaten (read_production (expr r) r 0 production) (read_production (expr r) r 0 production) (twin_production r r (inl refl) (inner_twin r) production 0)
+  started_gone r (Inner production) is deep = gone_reader (r == 0) _ _ (t ∷ s) (inr deep) (eaten (read_production (expr r) r 0 production) (read_production (expr r) r 0 production) (twin_production r r (inl refl) (inner_twin r) production 0))
   started_gone r Nothing is deep = cc
 
   tight_enough : (k least : ℕ) → nat_le least k ≡ true → nat_lt k least ≡ false
@@ -724,17 +724,17 @@ module _ (L : FaultKind → Type 0) (t : Token) (s v : List Token) (place : Plac
   suffix_gone r y kind is deep = suffix_by_gone r (length s) y (suffix_of t.kind) kind is deep
 
   -- behind a token that an expression of a production without parts begins with
-  pub leaf_gone : (r least : ℕ) (x : Token) (row : Row) → prefix_of x.kind ≡ None → start_of x.at x.kind ≡ Leaf row → Gone (and_then (read_row (expr r) r 0 row (t ∷ s)) (suffixes (expr r) r)) → Gone (expr (suc r) least (x ∷ (t ∷ s)))
+  pub leaf_gone : (r least : ℕ) (x : Token) (production : Production) → prefix_of x.kind ≡ None → start_of x.at x.kind ≡ Leaf production → Gone (and_then (read_production (expr r) r 0 production (t ∷ s)) (suffixes (expr r) r)) → Gone (expr (suc r) least (x ∷ (t ∷ s)))
   unfolding expr level operand primary first next
-  leaf_gone r least x row p st gone = rw (p, st) (gone_then (and_then (read_row (expr r) r 0 row (t ∷ s)) (suffixes (expr r) r)) (climb (expr r) r least) gone (λ y rest. (twin_climb r r (inl refl) (inner_twin r) least y).leaves rest))
+  leaf_gone r least x production p st gone = rw (p, st) (gone_then (and_then (read_production (expr r) r 0 production (t ∷ s)) (suffixes (expr r) r)) (climb (expr r) r least) gone (λ y rest. (twin_climb r r (inl refl) (inner_twin r) least y).leaves rest))
 
   taken_mark : (which : Mark) → is_mark which t.kind ≡ true → Gone (expect which (t ∷ s))
   unfolding expect sees first next
   taken_mark which is = rw is (omega arith)
 
   -- a mark that a production goes on with
-  pub open_gone : (r : ℕ) (which : Mark) (row : Row) → is_mark which t.kind ≡ true → Gone (and_then (read_row (expr r) r 0 (mark which row) (t ∷ s)) (suffixes (expr r) r))
-  open_gone r which row is =
-      gone_then (read_row (expr r) r 0 (mark which row) (t ∷ s)) (suffixes (expr r) r)
-      (gone_then (expect which (t ∷ s)) (λ u. read_row (expr r) r 0 row) (taken_mark which is) (λ u rest. (twin_row r r (inl refl) (inner_twin r) row 0).leaves rest))
+  pub open_gone : (r : ℕ) (which : Mark) (production : Production) → is_mark which t.kind ≡ true → Gone (and_then (read_production (expr r) r 0 (mark which production) (t ∷ s)) (suffixes (expr r) r))
+  open_gone r which production is =
+      gone_then (read_production (expr r) r 0 (mark which production) (t ∷ s)) (suffixes (expr r) r)
+      (gone_then (expect which (t ∷ s)) (λ u. read_production (expr r) r 0 production) (taken_mark which is) (λ u rest. (twin_production r r (inl refl) (inner_twin r) production 0).leaves rest))
       (λ y rest. (twin_suffixes r r (inl refl) (inner_twin r) y).leaves rest)

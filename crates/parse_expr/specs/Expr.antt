@@ -11,14 +11,14 @@ use Rattle.fb_ast.specs.declared.expr.Expr.TheVariants as e
 use Rattle.fb_ast.specs.Places.{place_of}
 use Rattle.parse_expr.specs.declared.kinds.Suffix.{Suffix}
 use Rattle.parse_expr.specs.declared.kinds.Operator.{Operator}
-use Rattle.parse_expr.specs.declared.stop.Stop.{Stop}
-use Rattle.parse_expr.specs.declared.stop.Stop.TheVariants as stops
-use Rattle.parse_expr.specs.declared.stop.ParseErr.{ParseErr}
-use Rattle.parse_expr.specs.declared.stop.ParseErr.TheVariants as errors
+use Rattle.parse_expr.specs.declared.error.ReadErr.{ReadErr}
+use Rattle.parse_expr.specs.declared.error.ReadErr.TheVariants as read_errs
+use Rattle.parse_expr.specs.declared.error.ParseErr.{ParseErr}
+use Rattle.parse_expr.specs.declared.error.ParseErr.TheVariants as errors
 use Rattle.parse_expr.specs.Words.{prefix_of, binary_of, suffix_of}
 use Rattle.parse_expr.specs.Reading.{Reader, Outcome, first, next, sees, expect, refuse, pure, stop, ◌>>=◌, ◌>>◌, take_token, turns}
 use Rattle.parse_expr.specs.Types.{type_name, name}
-use Rattle.parse_expr.specs.Rows.{Row, gives, mark, typed, named, part, arguments, choice, Start, Leaf, Inner, Nothing, start_of, suffix_row, begins_operand}
+use Rattle.parse_expr.specs.Productions.{Production, gives, mark, typed, named, part, arguments, choice, Start, Leaf, Inner, Nothing, start_of, suffix_production, begins_operand}
 
 -- an expression and how deep it is
 abbrev pub Measured : Type 0
@@ -38,10 +38,10 @@ abbrev pub suffix_at : Option Token → Option Suffix
 suffix_at None = None
 suffix_at (Some t) = suffix_of t.kind
 
--- a row that has a part expression from here on
-abbrev pub opens : Row → Bool
+-- a production that has a part expression from here on
+abbrev pub opens : Production → Bool
 opens (part rest) = true
-opens row = false
+opens production = false
 
 abbrev pub too_deep : {A : Type 0} → Reader A
 too_deep = stop DeepNesting
@@ -64,20 +64,20 @@ module _ (inner : ℕ → Reader Measured) (room : ℕ) where
   unfoldable pub arguments_in : ℕ → Reader (List Expr × ℕ)
   arguments_in deepest = λ ts. if sees Close ts then Ok (([], deepest), next ts) else arguments_from (turns ts) [] deepest ts
 
-  abbrev pub read_row : ℕ → Row → Reader Measured
-  read_row deepest (gives tree) = pure (tree, deepest + 1)
-  read_row deepest (mark which rest) = expect which >> read_row deepest rest
-  read_row deepest (typed rest) = type_name >>= (λ ty. read_row deepest (rest ty))
-  read_row deepest (named rest) = name >>= (λ n. read_row deepest (rest n))
-  read_row deepest (part rest) = part_in deepest >>= (λ x. read_row x.1 (rest x.0))
-  read_row deepest (arguments rest) = arguments_in deepest >>= (λ x. read_row x.1 (rest x.0))
-  read_row deepest (choice which one other) = λ ts.
-      if sees which ts then (if opens one then (if room == 0 then Err (stops.Fault DeepNesting, ts) else read_row deepest one (next ts)) else read_row deepest one (next ts))
-      else read_row deepest other ts
+  abbrev pub read_production : ℕ → Production → Reader Measured
+  read_production deepest (gives tree) = pure (tree, deepest + 1)
+  read_production deepest (mark which rest) = expect which >> read_production deepest rest
+  read_production deepest (typed rest) = type_name >>= (λ ty. read_production deepest (rest ty))
+  read_production deepest (named rest) = name >>= (λ n. read_production deepest (rest n))
+  read_production deepest (part rest) = part_in deepest >>= (λ x. read_production x.1 (rest x.0))
+  read_production deepest (arguments rest) = arguments_in deepest >>= (λ x. read_production x.1 (rest x.0))
+  read_production deepest (choice which one other) = λ ts.
+      if sees which ts then (if opens one then (if room == 0 then Err (read_errs.Fault DeepNesting, ts) else read_production deepest one (next ts)) else read_production deepest one (next ts))
+      else read_production deepest other ts
 
   abbrev pub started : Start → Reader Measured
-  started (Leaf row) = take_token >> read_row 0 row
-  started (Inner row) = if room == 0 then too_deep else take_token >> read_row 0 row
+  started (Leaf production) = take_token >> read_production 0 production
+  started (Inner production) = if room == 0 then too_deep else take_token >> read_production 0 production
   started Nothing = refuse
 
   unfoldable pub primary : Token → Reader Measured
@@ -85,7 +85,7 @@ module _ (inner : ℕ → Reader Measured) (room : ℕ) where
 
   -- what goes on behind an expression
   abbrev pub suffixed : Measured → Suffix → Reader Measured
-  suffixed x suffix = if nat_lt room x.1 then too_deep else take_token >> read_row x.1 (suffix_row x.0 suffix)
+  suffixed x suffix = if nat_lt room x.1 then too_deep else take_token >> read_production x.1 (suffix_production x.0 suffix)
 
   abbrev pub suffix_by : Option Suffix → Measured → (Measured → Reader Measured) → Reader Measured
   suffix_by None x again = pure x
@@ -150,7 +150,7 @@ begins least (Some t) = begins_as least t (prefix_of t.kind)
 
 -- where no expression can be deep enough
 unfoldable pub no_room : ℕ → Reader Measured
-no_room least = λ ts. if begins least (first ts) then Err (stops.Fault DeepNesting, ts) else refuse ts
+no_room least = λ ts. if begins least (first ts) then Err (read_errs.Fault DeepNesting, ts) else refuse ts
 
 -- An expression that is at most so deep, whose operators outside parentheses are of at least this level.
 unfoldable pub expr : ℕ → ℕ → Reader Measured
@@ -171,9 +171,9 @@ last_place tokens = place_or (record { line = 1; col = 1 }) (slice_get tokens (l
 abbrev pub fault_place : List Token → List Token → Span
 fault_place tokens rest = place_or (last_place tokens) (first rest)
 
-abbrev pub error_of : List Token → Stop → List Token → ParseErr
-error_of tokens stops.NoMemory rest = errors.NoMemory
-error_of tokens (stops.Fault kind) rest = errors.Fault (record { kind = kind; at = fault_place tokens rest })
+abbrev pub error_of : List Token → ReadErr → List Token → ParseErr
+error_of tokens read_errs.NoMemory rest = errors.NoMemory
+error_of tokens (read_errs.Fault kind) rest = errors.Fault (record { kind = kind; at = fault_place tokens rest })
 
 abbrev pub told : List Token → Outcome Measured → Result (Expr × ℕ) ParseErr
 told tokens (Ok x) = Ok (x.0.0, length tokens - length x.1)

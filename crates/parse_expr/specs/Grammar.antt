@@ -19,7 +19,7 @@ use Rattle.parse_expr.specs.declared.kinds.Suffix.TheVariants as suffixes
 use Rattle.parse_expr.specs.Words.{prefix_of, binary_of, suffix_of, base_of, is_pointer}
 use Rattle.parse_expr.specs.Reading.{first, holds}
 use Rattle.parse_expr.specs.Expr.{suffix_at, operator_at, fault_place}
-use Rattle.parse_expr.specs.Rows.{Row, gives, mark, typed, named, part, arguments, choice, Start, Leaf, Inner, Nothing, start_of, suffix_row}
+use Rattle.parse_expr.specs.Productions.{Production, gives, mark, typed, named, part, arguments, choice, Start, Leaf, Inner, Nothing, start_of, suffix_production}
 
 -- ---- types
 
@@ -35,11 +35,11 @@ pub data IsType : List Token → TypeName → Type 0 where
 
 -- ---- expressions
 
--- the row of the production that a token begins
-abbrev pub row_of : Start → Option Row
-row_of (Leaf row) = Some row
-row_of (Inner row) = Some row
-row_of Nothing = None
+-- the production of the production that a token begins
+abbrev pub production_of : Start → Option Production
+production_of (Leaf production) = Some production
+production_of (Inner production) = Some production
+production_of Nothing = None
 
 -- Parentheses and brackets right behind the type of a New belong to it, so none of them follow one that has none.
 abbrev pub may_follow_new : Suffix → Bool
@@ -56,25 +56,25 @@ abbrev pub may_follow : Expr → Suffix → Bool
 may_follow left suffix = may_follow_in (out-Expr left) suffix
 
 -- What tokens are.
-pub data Piece : Type 0 where
+pub data Symbol : Type 0 where
   -- An expression of at least this level and of this depth. An operator before its operand is of level 14, or 6 for
   -- Not, one between its operands of the levels 1 to 13, and all others are of level 15.
-  Expression : (level depth : ℕ) → Expr → Piece
-  -- what a row asks for: the greatest depth of the parts before, and the depth and the tree of the whole
-  Behind : Row → (deepest depth : ℕ) → Expr → Piece
+  Expression : (level depth : ℕ) → Expr → Symbol
+  -- what a production asks for: the greatest depth of the parts before, and the depth and the tree of the whole
+  Behind : Production → (deepest depth : ℕ) → Expr → Symbol
   -- expressions with commas between and a closing parenthesis: the greatest depth before them and with them
-  Arguments : (deepest deeper : ℕ) → List Expr → Piece
+  Arguments : (deepest deeper : ℕ) → List Expr → Symbol
 
-pub data Is : Piece → List Token → Type 0 where
+pub data Is : Symbol → List Token → Type 0 where
   -- a production from its first token on
-  primary : (t : Token) (row : Row) (ts : List Token) (level depth : ℕ) (tree : Expr)
-      → prefix_of t.kind ≡ None → row_of (start_of t.at t.kind) ≡ Some row → level ≤ 15
-      → Is (Behind row 0 depth tree) ts
+  primary : (t : Token) (production : Production) (ts : List Token) (level depth : ℕ) (tree : Expr)
+      → prefix_of t.kind ≡ None → production_of (start_of t.at t.kind) ≡ Some production → level ≤ 15
+      → Is (Behind production 0 depth tree) ts
       → Is (Expression level depth tree) (t ∷ ts)
   -- a call, an index or a member, one deeper than what it goes on with
   suffix : (front : List Token) (t : Token) (back : List Token) (kind : Suffix) (left : Expr) (d level depth : ℕ) (tree : Expr)
       → suffix_of t.kind ≡ Some kind → may_follow left kind ≡ true → level ≤ 15
-      → Is (Expression 15 d left) front → Is (Behind (suffix_row left kind) d depth tree) back
+      → Is (Expression 15 d left) front → Is (Behind (suffix_production left kind) d depth tree) back
       → Is (Expression level depth tree) (front ++ t ∷ back)
   -- an operator before its operand
   prefix : (t : Token) (ts : List Token) (operator : Unary) (k d level : ℕ) (operand : Expr)
@@ -87,28 +87,28 @@ pub data Is : Piece → List Token → Type 0 where
       → Is (Expression k c left) front → Is (Expression (k + 1) d right) back
       → Is (Expression level (max c d + 1) (e.Binary (place_of left) left operator t.at right)) (front ++ t ∷ back)
   nothing : (deepest : ℕ) (tree : Expr) → Is (Behind (gives tree) deepest (deepest + 1) tree) []
-  a_mark : (t : Token) (ts : List Token) (which : Mark) (row : Row) (deepest depth : ℕ) (tree : Expr)
-      → t.kind ≡ kinds.Mark which → Is (Behind row deepest depth tree) ts
-      → Is (Behind (mark which row) deepest depth tree) (t ∷ ts)
-  a_type : (front back : List Token) (ty : TypeName) (row : TypeName → Row) (deepest depth : ℕ) (tree : Expr)
-      → IsType front ty → Is (Behind (row ty) deepest depth tree) back
-      → Is (Behind (typed row) deepest depth tree) (front ++ back)
-  a_name : (t : Token) (ts : List Token) (text : List ℕ) (row : Name → Row) (deepest depth : ℕ) (tree : Expr)
-      → t.kind ≡ kinds.Name text → Is (Behind (row (record { at = t.at; text = text })) deepest depth tree) ts
-      → Is (Behind (named row) deepest depth tree) (t ∷ ts)
-  a_part : (front back : List Token) (inner : Expr) (row : Expr → Row) (d deepest depth : ℕ) (tree : Expr)
-      → Is (Expression 1 d inner) front → Is (Behind (row inner) (max deepest d) depth tree) back
-      → Is (Behind (part row) deepest depth tree) (front ++ back)
-  no_arguments : (t : Token) (ts : List Token) (row : List Expr → Row) (deepest depth : ℕ) (tree : Expr)
-      → t.kind ≡ kinds.Mark Close → Is (Behind (row []) deepest depth tree) ts
-      → Is (Behind (arguments row) deepest depth tree) (t ∷ ts)
-  some_arguments : (front back : List Token) (all : List Expr) (row : List Expr → Row) (deepest deeper depth : ℕ) (tree : Expr)
-      → Is (Arguments deepest deeper all) front → Is (Behind (row all) deeper depth tree) back
-      → Is (Behind (arguments row) deepest depth tree) (front ++ back)
-  with_choice : (t : Token) (ts : List Token) (which : Mark) (one other : Row) (deepest depth : ℕ) (tree : Expr)
+  a_mark : (t : Token) (ts : List Token) (which : Mark) (production : Production) (deepest depth : ℕ) (tree : Expr)
+      → t.kind ≡ kinds.Mark which → Is (Behind production deepest depth tree) ts
+      → Is (Behind (mark which production) deepest depth tree) (t ∷ ts)
+  a_type : (front back : List Token) (ty : TypeName) (production : TypeName → Production) (deepest depth : ℕ) (tree : Expr)
+      → IsType front ty → Is (Behind (production ty) deepest depth tree) back
+      → Is (Behind (typed production) deepest depth tree) (front ++ back)
+  a_name : (t : Token) (ts : List Token) (text : List ℕ) (production : Name → Production) (deepest depth : ℕ) (tree : Expr)
+      → t.kind ≡ kinds.Name text → Is (Behind (production (record { at = t.at; text = text })) deepest depth tree) ts
+      → Is (Behind (named production) deepest depth tree) (t ∷ ts)
+  a_part : (front back : List Token) (inner : Expr) (production : Expr → Production) (d deepest depth : ℕ) (tree : Expr)
+      → Is (Expression 1 d inner) front → Is (Behind (production inner) (max deepest d) depth tree) back
+      → Is (Behind (part production) deepest depth tree) (front ++ back)
+  no_arguments : (t : Token) (ts : List Token) (production : List Expr → Production) (deepest depth : ℕ) (tree : Expr)
+      → t.kind ≡ kinds.Mark Close → Is (Behind (production []) deepest depth tree) ts
+      → Is (Behind (arguments production) deepest depth tree) (t ∷ ts)
+  some_arguments : (front back : List Token) (all : List Expr) (production : List Expr → Production) (deepest deeper depth : ℕ) (tree : Expr)
+      → Is (Arguments deepest deeper all) front → Is (Behind (production all) deeper depth tree) back
+      → Is (Behind (arguments production) deepest depth tree) (front ++ back)
+  with_choice : (t : Token) (ts : List Token) (which : Mark) (one other : Production) (deepest depth : ℕ) (tree : Expr)
       → t.kind ≡ kinds.Mark which → Is (Behind one deepest depth tree) ts
       → Is (Behind (choice which one other) deepest depth tree) (t ∷ ts)
-  without_choice : (ts : List Token) (which : Mark) (one other : Row) (deepest depth : ℕ) (tree : Expr)
+  without_choice : (ts : List Token) (which : Mark) (one other : Production) (deepest depth : ℕ) (tree : Expr)
       → Is (Behind other deepest depth tree) ts
       → Is (Behind (choice which one other) deepest depth tree) ts
   last_argument : (front : List Token) (t : Token) (inner : Expr) (d deepest : ℕ)

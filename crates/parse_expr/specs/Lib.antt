@@ -1,7 +1,7 @@
 pub mod Words
 pub mod Reading
 pub mod Types
-pub mod Rows
+pub mod Productions
 pub mod Expr
 pub mod Nests
 pub mod Grammar

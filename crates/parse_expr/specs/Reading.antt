@@ -10,8 +10,8 @@ use Rattle.fb_lexer.specs.declared.token.Mark.{Mark}
 use Rattle.fb_lexer.specs.contracts.token.Mark as mark_contracts
 use Rattle.fb_lexer.specs.declared.word.Word.{Word}
 use Rattle.fb_lexer.specs.contracts.word.Word as word_contracts
-use Rattle.parse_expr.specs.declared.stop.Stop.{Stop}
-use Rattle.parse_expr.specs.declared.stop.Stop.TheVariants.{NoMemory, Fault}
+use Rattle.parse_expr.specs.declared.error.ReadErr.{ReadErr}
+use Rattle.parse_expr.specs.declared.error.ReadErr.TheVariants.{NoMemory, Fault}
 use Rattle.parse_expr.specs.Words.{is_refused}
 
 -- ---- the next token
@@ -53,7 +53,7 @@ sees_word word ts = holds (is_word word) (first ts)
 
 -- what is read and the tokens behind it, or what is wrong and the tokens from there on
 abbrev pub Outcome : Type 0 → Type 0
-Outcome A = Result (A × List Token) (Stop × List Token)
+Outcome A = Result (A × List Token) (ReadErr × List Token)
 
 abbrev pub Reader : Type 0 → Type 0
 Reader A = List Token → Outcome A
@@ -108,6 +108,6 @@ turns ts = length ts
 
 -- ---- what a function that reads ensures: the reader's outcome, unless memory fails
 
-abbrev pub Reads : {A : Type 0} → Outcome A → Result A Stop → List Token → Type 0
+abbrev pub Reads : {A : Type 0} → Outcome A → Result A ReadErr → List Token → Type 0
 Reads outcome (Ok a) new = outcome ≡ Ok (a, new)
 Reads outcome (Err e) new = e ≢ NoMemory → outcome ≡ Err (e, new)

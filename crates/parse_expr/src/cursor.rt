@@ -4,8 +4,8 @@ ghost use Rattle.std.specs.Option.{option_copied};
 ghost use Rattle.parse_expr.specs.Reading as spec;
 ghost use Rattle.parse_expr.specs.Reading.{Reads};
 
+use crate::error::ReadErr;
 use crate::kinds::is_refused;
-use crate::stop::Stop;
 use fb_base::FaultKind;
 use fb_lexer::{Mark, Token, TokenKind, Tokens, Word};
 use std::marker::Model;
@@ -113,27 +113,27 @@ impl<'a> Cursor<'a> {
 
     /// Takes a mark, which has to come next.
     #[tactic(auto, unfolding(crate::specs::Reading::expect))]
-    pub fn expect(&mut self, mark: Mark) -> Result<(), Stop>
+    pub fn expect(&mut self, mark: Mark) -> Result<(), ReadErr>
         ensures { Reads (spec.expect mark self.old) result self.new }
     {
         if self.sees(mark) {
             self.take();
             Ok(())
         } else {
-            Err(Stop::Fault(FaultKind::Expected))
+            Err(ReadErr::Fault(FaultKind::Expected))
         }
     }
 
     /// Takes a reserved word, which has to come next.
     #[tactic(auto, unfolding(crate::specs::Reading::expect_word))]
-    pub fn expect_word(&mut self, word: Word) -> Result<(), Stop>
+    pub fn expect_word(&mut self, word: Word) -> Result<(), ReadErr>
         ensures { Reads (spec.expect_word word self.old) result self.new }
     {
         if self.sees_word(word) {
             self.take();
             Ok(())
         } else {
-            Err(Stop::Fault(FaultKind::Expected))
+            Err(ReadErr::Fault(FaultKind::Expected))
         }
     }
 
@@ -149,10 +149,10 @@ impl<'a> Cursor<'a> {
     }
 
     /// That refusal as an error.
-    pub fn refuse(&self) -> Stop
-        ensures { result ≡ Stop.Fault (spec.refusal self.now) }
+    pub fn refuse(&self) -> ReadErr
+        ensures { result ≡ ReadErr.Fault (spec.refusal self.now) }
     {
-        Stop::Fault(self.refusal())
+        ReadErr::Fault(self.refusal())
     }
 }
 

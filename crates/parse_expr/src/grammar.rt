@@ -3,13 +3,13 @@
 ghost use Rattle.std.specs.Prelude.{◌≡◌, ◌≤◌, ◌+◌, [], length, IfOk};
 ghost use Rattle.parse_expr.specs.Reading.{Reads, first};
 ghost use Rattle.parse_expr.specs.Expr as spec;
-ghost use Rattle.parse_expr.specs.Rows as rows;
+ghost use Rattle.parse_expr.specs.Productions as productions;
 ghost use Rattle.parse_expr.specs.Nests.{Nests};
 
 use crate::cursor::Cursor;
+use crate::error::ReadErr;
 use crate::kinds::{OperandWord, Operator, Suffix, binary_of, operand_word, prefix_of, suffix_of};
 use crate::lists::room_for_one;
-use crate::stop::Stop;
 use crate::types::{copied, name, type_name};
 use fb_ast::{CallWord, Expr, TypeName, Unary};
 use fb_base::{FaultKind, Span};
@@ -20,7 +20,7 @@ use std::alloc::Global;
 /// The level of an expression between parentheses, commas or brackets.
 const WHOLE: u8 = 1;
 
-const TOO_DEEP: Stop = Stop::Fault(FaultKind::DeepNesting);
+const TOO_DEEP: ReadErr = ReadErr::Fault(FaultKind::DeepNesting);
 
 #[derive(Clone, Copy)]
 pub struct Grammar<F> {
@@ -53,8 +53,8 @@ fn operator_at(cursor: &Cursor<'_>, least: u8) -> Option<Operator>
     }
 }
 
-impl<F: Fn(Global, &mut Cursor<'_>, usize, u8) -> Result<(Expr, usize), Stop>> Grammar<F> {
-    fn inner(&self, cursor: &mut Cursor<'_>, least: u8) -> Result<(Expr, usize), Stop>
+impl<F: Fn(Global, &mut Cursor<'_>, usize, u8) -> Result<(Expr, usize), ReadErr>> Grammar<F> {
+    fn inner(&self, cursor: &mut Cursor<'_>, least: u8) -> Result<(Expr, usize), ReadErr>
         requires { Nests self.now.room (F.pre self.now.inner) (F.post self.now.inner) }
         ensures reads { Reads (spec.expr self.now.room least cursor.old) result cursor.new }
         ensures within { IfOk result (λ x. x.1 ≤ self.now.room) }
@@ -64,7 +64,7 @@ impl<F: Fn(Global, &mut Cursor<'_>, usize, u8) -> Result<(Expr, usize), Stop>> G
 
     // A part expression, and the greatest depth with it.
     #[tactic(auto, unfolding(crate::specs::Expr::part_in))]
-    fn part(&self, cursor: &mut Cursor<'_>, deepest: usize) -> Result<(Expr, usize), Stop>
+    fn part(&self, cursor: &mut Cursor<'_>, deepest: usize) -> Result<(Expr, usize), ReadErr>
         requires nests { Nests self.now.room (F.pre self.now.inner) (F.post self.now.inner) }
         requires deep { deepest ≤ self.now.room }
         ensures reads { Reads (spec.part_in (spec.expr self.now.room) self.now.room deepest cursor.old) result cursor.new }
@@ -76,11 +76,12 @@ impl<F: Fn(Global, &mut Cursor<'_>, usize, u8) -> Result<(Expr, usize), Stop>> G
 
     // Expressions with commas between, up to the closing parenthesis, of which there is at least one.
     #[tactic(auto, unfolding(crate::specs::Expr::arguments_from))]
+    #[inline(never)]
     fn some_arguments(
         &self,
         cursor: &mut Cursor<'_>,
         deepest: usize,
-    ) -> Result<(Items<Expr>, usize), Stop>
+    ) -> Result<(Items<Expr>, usize), ReadErr>
         requires nests { Nests self.now.room (F.pre self.now.inner) (F.post self.now.inner) }
         requires deep { deepest ≤ self.now.room }
         ensures reads { Reads (spec.arguments_from (spec.expr self.now.room) self.now.room (length cursor.old) [] deepest cursor.old) result cursor.new }
@@ -106,7 +107,7 @@ impl<F: Fn(Global, &mut Cursor<'_>, usize, u8) -> Result<(Expr, usize), Stop>> G
         &self,
         cursor: &mut Cursor<'_>,
         deepest: usize,
-    ) -> Result<(Items<Expr>, usize), Stop>
+    ) -> Result<(Items<Expr>, usize), ReadErr>
         requires nests { Nests self.now.room (F.pre self.now.inner) (F.post self.now.inner) }
         requires deep { deepest ≤ self.now.room }
         ensures reads { Reads (spec.arguments_in (spec.expr self.now.room) self.now.room deepest cursor.old) result cursor.new }
@@ -119,9 +120,10 @@ impl<F: Fn(Global, &mut Cursor<'_>, usize, u8) -> Result<(Expr, usize), Stop>> G
         self.some_arguments(cursor, deepest)
     }
 
-    fn parenthesized(&self, cursor: &mut Cursor<'_>, at: Span) -> Result<(Expr, usize), Stop>
+    #[inline(never)]
+    fn parenthesized(&self, cursor: &mut Cursor<'_>, at: Span) -> Result<(Expr, usize), ReadErr>
         requires { Nests self.now.room (F.pre self.now.inner) (F.post self.now.inner) }
-        ensures reads { Reads (spec.read_row (spec.expr self.now.room) self.now.room 0 (rows.paren_row at) cursor.old) result cursor.new }
+        ensures reads { Reads (spec.read_production (spec.expr self.now.room) self.now.room 0 (productions.paren_production at) cursor.old) result cursor.new }
         ensures within { IfOk result (λ x. x.1 ≤ self.now.room + 1) }
     {
         let (inner, depth) = self.part(cursor, 0)?;
@@ -129,14 +131,15 @@ impl<F: Fn(Global, &mut Cursor<'_>, usize, u8) -> Result<(Expr, usize), Stop>> G
         Ok((Expr::Paren(at, Boxed::new(self.alloc, inner)?), depth + 1))
     }
 
+    #[inline(never)]
     fn new_array(
         &self,
         cursor: &mut Cursor<'_>,
         at: Span,
         ty: TypeName,
-    ) -> Result<(Expr, usize), Stop>
+    ) -> Result<(Expr, usize), ReadErr>
         requires { Nests self.now.room (F.pre self.now.inner) (F.post self.now.inner) }
-        ensures reads { Reads (spec.read_row (spec.expr self.now.room) self.now.room 0 (rows.new_array_row at ty) cursor.old) result cursor.new }
+        ensures reads { Reads (spec.read_production (spec.expr self.now.room) self.now.room 0 (productions.new_array_production at ty) cursor.old) result cursor.new }
         ensures within { IfOk result (λ x. x.1 ≤ self.now.room + 1) }
     {
         let (count, depth) = self.part(cursor, 0)?;
@@ -146,9 +149,10 @@ impl<F: Fn(Global, &mut Cursor<'_>, usize, u8) -> Result<(Expr, usize), Stop>> G
     }
 
     // What New makes. Parentheses and brackets right behind its type belong to it.
-    fn new_(&self, cursor: &mut Cursor<'_>, at: Span) -> Result<(Expr, usize), Stop>
+    #[inline(never)]
+    fn new_(&self, cursor: &mut Cursor<'_>, at: Span) -> Result<(Expr, usize), ReadErr>
         requires { Nests self.now.room (F.pre self.now.inner) (F.post self.now.inner) }
-        ensures reads { Reads (spec.read_row (spec.expr self.now.room) self.now.room 0 (rows.new_row at) cursor.old) result cursor.new }
+        ensures reads { Reads (spec.read_production (spec.expr self.now.room) self.now.room 0 (productions.new_production at) cursor.old) result cursor.new }
         ensures within { IfOk result (λ x. x.1 ≤ self.now.room + 1) }
     {
         let ty = type_name(self.alloc, cursor)?;
@@ -167,9 +171,10 @@ impl<F: Fn(Global, &mut Cursor<'_>, usize, u8) -> Result<(Expr, usize), Stop>> G
         Ok((Expr::New(at, ty), 1))
     }
 
-    fn cast(&self, cursor: &mut Cursor<'_>, at: Span) -> Result<(Expr, usize), Stop>
+    #[inline(never)]
+    fn cast(&self, cursor: &mut Cursor<'_>, at: Span) -> Result<(Expr, usize), ReadErr>
         requires { Nests self.now.room (F.pre self.now.inner) (F.post self.now.inner) }
-        ensures reads { Reads (spec.read_row (spec.expr self.now.room) self.now.room 0 (rows.cast_row at) cursor.old) result cursor.new }
+        ensures reads { Reads (spec.read_production (spec.expr self.now.room) self.now.room 0 (productions.cast_production at) cursor.old) result cursor.new }
         ensures within { IfOk result (λ x. x.1 ≤ self.now.room + 1) }
     {
         cursor.expect(Mark::Open)?;
@@ -181,9 +186,10 @@ impl<F: Fn(Global, &mut Cursor<'_>, usize, u8) -> Result<(Expr, usize), Stop>> G
         Ok((Expr::Cast(at, ty, value), depth + 1))
     }
 
-    fn cptr(&self, cursor: &mut Cursor<'_>, at: Span) -> Result<(Expr, usize), Stop>
+    #[inline(never)]
+    fn cptr(&self, cursor: &mut Cursor<'_>, at: Span) -> Result<(Expr, usize), ReadErr>
         requires { Nests self.now.room (F.pre self.now.inner) (F.post self.now.inner) }
-        ensures reads { Reads (spec.read_row (spec.expr self.now.room) self.now.room 0 (rows.cptr_row at) cursor.old) result cursor.new }
+        ensures reads { Reads (spec.read_production (spec.expr self.now.room) self.now.room 0 (productions.cptr_production at) cursor.old) result cursor.new }
         ensures within { IfOk result (λ x. x.1 ≤ self.now.room + 1) }
     {
         cursor.expect(Mark::Open)?;
@@ -195,8 +201,9 @@ impl<F: Fn(Global, &mut Cursor<'_>, usize, u8) -> Result<(Expr, usize), Stop>> G
         Ok((Expr::CPtr(at, ty, value), depth + 1))
     }
 
-    fn size_of(&self, cursor: &mut Cursor<'_>, at: Span) -> Result<(Expr, usize), Stop>
-        ensures reads { Reads (spec.read_row (spec.expr self.now.room) self.now.room 0 (rows.size_row at) cursor.old) result cursor.new }
+    #[inline(never)]
+    fn size_of(&self, cursor: &mut Cursor<'_>, at: Span) -> Result<(Expr, usize), ReadErr>
+        ensures reads { Reads (spec.read_production (spec.expr self.now.room) self.now.room 0 (productions.size_production at) cursor.old) result cursor.new }
         ensures within { IfOk result (λ x. x.1 ≤ self.now.room + 1) }
     {
         cursor.expect(Mark::Open)?;
@@ -205,9 +212,10 @@ impl<F: Fn(Global, &mut Cursor<'_>, usize, u8) -> Result<(Expr, usize), Stop>> G
         Ok((Expr::SizeOf(at, ty), 1))
     }
 
-    fn iif(&self, cursor: &mut Cursor<'_>, at: Span) -> Result<(Expr, usize), Stop>
+    #[inline(never)]
+    fn iif(&self, cursor: &mut Cursor<'_>, at: Span) -> Result<(Expr, usize), ReadErr>
         requires { Nests self.now.room (F.pre self.now.inner) (F.post self.now.inner) }
-        ensures reads { Reads (spec.read_row (spec.expr self.now.room) self.now.room 0 (rows.iif_row at) cursor.old) result cursor.new }
+        ensures reads { Reads (spec.read_production (spec.expr self.now.room) self.now.room 0 (productions.iif_production at) cursor.old) result cursor.new }
         ensures within { IfOk result (λ x. x.1 ≤ self.now.room + 1) }
     {
         cursor.expect(Mark::Open)?;
@@ -223,14 +231,15 @@ impl<F: Fn(Global, &mut Cursor<'_>, usize, u8) -> Result<(Expr, usize), Stop>> G
         Ok((Expr::IIf(at, condition, one, other), deepest + 1))
     }
 
+    #[inline(never)]
     fn call_word(
         &self,
         cursor: &mut Cursor<'_>,
         at: Span,
         word: CallWord,
-    ) -> Result<(Expr, usize), Stop>
+    ) -> Result<(Expr, usize), ReadErr>
         requires { Nests self.now.room (F.pre self.now.inner) (F.post self.now.inner) }
-        ensures reads { Reads (spec.read_row (spec.expr self.now.room) self.now.room 0 (rows.call_word_row at word) cursor.old) result cursor.new }
+        ensures reads { Reads (spec.read_production (spec.expr self.now.room) self.now.room 0 (productions.call_word_production at word) cursor.old) result cursor.new }
         ensures within { IfOk result (λ x. x.1 ≤ self.now.room + 1) }
     {
         cursor.expect(Mark::Open)?;
@@ -244,9 +253,9 @@ impl<F: Fn(Global, &mut Cursor<'_>, usize, u8) -> Result<(Expr, usize), Stop>> G
         cursor: &mut Cursor<'_>,
         at: Span,
         word: OperandWord,
-    ) -> Result<(Expr, usize), Stop>
+    ) -> Result<(Expr, usize), ReadErr>
         requires { Nests self.now.room (F.pre self.now.inner) (F.post self.now.inner) }
-        ensures reads { Reads (spec.started (spec.expr self.now.room) self.now.room (rows.word_start at word) cursor.old) result cursor.new }
+        ensures reads { Reads (spec.started (spec.expr self.now.room) self.now.room (productions.word_start at word) cursor.old) result cursor.new }
         ensures within { IfOk result (λ x. x.1 ≤ self.now.room + 1) }
     {
         match word {
@@ -300,9 +309,9 @@ impl<F: Fn(Global, &mut Cursor<'_>, usize, u8) -> Result<(Expr, usize), Stop>> G
     }
 
     // The production that a mark begins.
-    fn mark(&self, cursor: &mut Cursor<'_>, at: Span, mark: Mark) -> Result<(Expr, usize), Stop>
+    fn mark(&self, cursor: &mut Cursor<'_>, at: Span, mark: Mark) -> Result<(Expr, usize), ReadErr>
         requires { Nests self.now.room (F.pre self.now.inner) (F.post self.now.inner) }
-        ensures reads { Reads (spec.started (spec.expr self.now.room) self.now.room (rows.mark_start at mark) cursor.old) result cursor.new }
+        ensures reads { Reads (spec.started (spec.expr self.now.room) self.now.room (productions.mark_start at mark) cursor.old) result cursor.new }
         ensures within { IfOk result (λ x. x.1 ≤ self.now.room + 1) }
     {
         match mark {
@@ -319,7 +328,7 @@ impl<F: Fn(Global, &mut Cursor<'_>, usize, u8) -> Result<(Expr, usize), Stop>> G
 
     // An operand without what goes on behind it, where its first token comes next.
     #[tactic(auto, unfolding(crate::specs::Expr::primary))]
-    fn primary(&self, cursor: &mut Cursor<'_>, token: &Token) -> Result<(Expr, usize), Stop>
+    fn primary(&self, cursor: &mut Cursor<'_>, token: &Token) -> Result<(Expr, usize), ReadErr>
         requires { Nests self.now.room (F.pre self.now.inner) (F.post self.now.inner) }
         ensures reads { Reads (spec.primary (spec.expr self.now.room) self.now.room token.now cursor.old) result cursor.new }
         ensures within { IfOk result (λ x. x.1 ≤ self.now.room + 1) }
@@ -344,10 +353,16 @@ impl<F: Fn(Global, &mut Cursor<'_>, usize, u8) -> Result<(Expr, usize), Stop>> G
     }
 
     // The arguments of what is called or indexed with parentheses, behind the opening one.
-    fn call(&self, cursor: &mut Cursor<'_>, left: Expr, depth: usize) -> Result<(Expr, usize), Stop>
+    #[inline(never)]
+    fn call(
+        &self,
+        cursor: &mut Cursor<'_>,
+        left: Expr,
+        depth: usize,
+    ) -> Result<(Expr, usize), ReadErr>
         requires nests { Nests self.now.room (F.pre self.now.inner) (F.post self.now.inner) }
         requires deep { depth ≤ self.now.room }
-        ensures reads { Reads (spec.read_row (spec.expr self.now.room) self.now.room depth (rows.call_row left) cursor.old) result cursor.new }
+        ensures reads { Reads (spec.read_production (spec.expr self.now.room) self.now.room depth (productions.call_production left) cursor.old) result cursor.new }
         ensures within { IfOk result (λ x. x.1 ≤ self.now.room + 1) }
     {
         let at = left.at();
@@ -357,15 +372,16 @@ impl<F: Fn(Global, &mut Cursor<'_>, usize, u8) -> Result<(Expr, usize), Stop>> G
     }
 
     // An index and its closing bracket.
+    #[inline(never)]
     fn index(
         &self,
         cursor: &mut Cursor<'_>,
         left: Expr,
         depth: usize,
-    ) -> Result<(Expr, usize), Stop>
+    ) -> Result<(Expr, usize), ReadErr>
         requires nests { Nests self.now.room (F.pre self.now.inner) (F.post self.now.inner) }
         requires deep { depth ≤ self.now.room }
-        ensures reads { Reads (spec.read_row (spec.expr self.now.room) self.now.room depth (rows.index_row left) cursor.old) result cursor.new }
+        ensures reads { Reads (spec.read_production (spec.expr self.now.room) self.now.room depth (productions.index_production left) cursor.old) result cursor.new }
         ensures within { IfOk result (λ x. x.1 ≤ self.now.room + 1) }
     {
         let at = left.at();
@@ -377,15 +393,16 @@ impl<F: Fn(Global, &mut Cursor<'_>, usize, u8) -> Result<(Expr, usize), Stop>> G
     }
 
     // The name of a member.
+    #[inline(never)]
     fn field(
         &self,
         cursor: &mut Cursor<'_>,
         left: Expr,
         depth: usize,
-    ) -> Result<(Expr, usize), Stop>
+    ) -> Result<(Expr, usize), ReadErr>
         requires nests { Nests self.now.room (F.pre self.now.inner) (F.post self.now.inner) }
         requires deep { depth ≤ self.now.room }
-        ensures reads { Reads (spec.read_row (spec.expr self.now.room) self.now.room depth (rows.field_row left) cursor.old) result cursor.new }
+        ensures reads { Reads (spec.read_production (spec.expr self.now.room) self.now.room depth (productions.field_production left) cursor.old) result cursor.new }
         ensures within { IfOk result (λ x. x.1 ≤ self.now.room + 1) }
     {
         let at = left.at();
@@ -395,15 +412,16 @@ impl<F: Fn(Global, &mut Cursor<'_>, usize, u8) -> Result<(Expr, usize), Stop>> G
     }
 
     // The name of a member of what a pointer points to.
+    #[inline(never)]
     fn arrow(
         &self,
         cursor: &mut Cursor<'_>,
         left: Expr,
         depth: usize,
-    ) -> Result<(Expr, usize), Stop>
+    ) -> Result<(Expr, usize), ReadErr>
         requires nests { Nests self.now.room (F.pre self.now.inner) (F.post self.now.inner) }
         requires deep { depth ≤ self.now.room }
-        ensures reads { Reads (spec.read_row (spec.expr self.now.room) self.now.room depth (rows.arrow_row left) cursor.old) result cursor.new }
+        ensures reads { Reads (spec.read_production (spec.expr self.now.room) self.now.room depth (productions.arrow_production left) cursor.old) result cursor.new }
         ensures within { IfOk result (λ x. x.1 ≤ self.now.room + 1) }
     {
         let at = left.at();
@@ -419,10 +437,10 @@ impl<F: Fn(Global, &mut Cursor<'_>, usize, u8) -> Result<(Expr, usize), Stop>> G
         left: Expr,
         depth: usize,
         suffix: Suffix,
-    ) -> Result<(Expr, usize), Stop>
+    ) -> Result<(Expr, usize), ReadErr>
         requires nests { Nests self.now.room (F.pre self.now.inner) (F.post self.now.inner) }
         requires deep { depth ≤ self.now.room }
-        ensures reads { Reads (spec.read_row (spec.expr self.now.room) self.now.room depth (rows.suffix_row left suffix) cursor.old) result cursor.new }
+        ensures reads { Reads (spec.read_production (spec.expr self.now.room) self.now.room depth (productions.suffix_production left suffix) cursor.old) result cursor.new }
         ensures within { IfOk result (λ x. x.1 ≤ self.now.room + 1) }
     {
         match suffix {
@@ -438,7 +456,7 @@ impl<F: Fn(Global, &mut Cursor<'_>, usize, u8) -> Result<(Expr, usize), Stop>> G
         cursor: &mut Cursor<'_>,
         left: (Expr, usize),
         suffix: Suffix,
-    ) -> Result<(Expr, usize), Stop>
+    ) -> Result<(Expr, usize), ReadErr>
         requires { Nests self.now.room (F.pre self.now.inner) (F.post self.now.inner) }
         ensures reads { Reads (spec.suffixed (spec.expr self.now.room) self.now.room left suffix cursor.old) result cursor.new }
         ensures within { IfOk result (λ x. x.1 ≤ self.now.room + 1) }
@@ -452,7 +470,11 @@ impl<F: Fn(Global, &mut Cursor<'_>, usize, u8) -> Result<(Expr, usize), Stop>> G
     }
 
     #[tactic(auto, unfolding(crate::specs::Expr::suffixes))]
-    fn suffixes(&self, cursor: &mut Cursor<'_>, first: (Expr, usize)) -> Result<(Expr, usize), Stop>
+    fn suffixes(
+        &self,
+        cursor: &mut Cursor<'_>,
+        first: (Expr, usize),
+    ) -> Result<(Expr, usize), ReadErr>
         requires nests { Nests self.now.room (F.pre self.now.inner) (F.post self.now.inner) }
         requires deep { first.1 ≤ self.now.room + 1 }
         ensures reads { Reads (spec.suffixes (spec.expr self.now.room) self.now.room first cursor.old) result cursor.new }
@@ -470,13 +492,14 @@ impl<F: Fn(Global, &mut Cursor<'_>, usize, u8) -> Result<(Expr, usize), Stop>> G
 
     // An operator before its operand, which comes next.
     #[tactic(auto, unfolding(crate::specs::Expr::prefixed))]
+    #[inline(never)]
     fn prefixed(
         &self,
         cursor: &mut Cursor<'_>,
         at: Span,
         operator: Unary,
         level: u8,
-    ) -> Result<(Expr, usize), Stop>
+    ) -> Result<(Expr, usize), ReadErr>
         requires { Nests self.now.room (F.pre self.now.inner) (F.post self.now.inner) }
         ensures reads { Reads (spec.prefixed (spec.expr self.now.room) self.now.room at operator level cursor.old) result cursor.new }
         ensures within { IfOk result (λ x. x.1 ≤ self.now.room + 1) }
@@ -491,7 +514,7 @@ impl<F: Fn(Global, &mut Cursor<'_>, usize, u8) -> Result<(Expr, usize), Stop>> G
     }
 
     #[tactic(auto, unfolding(crate::specs::Expr::operand))]
-    fn operand(&self, cursor: &mut Cursor<'_>, least: u8) -> Result<(Expr, usize), Stop>
+    fn operand(&self, cursor: &mut Cursor<'_>, least: u8) -> Result<(Expr, usize), ReadErr>
         requires { Nests self.now.room (F.pre self.now.inner) (F.post self.now.inner) }
         ensures reads { Reads (spec.operand (spec.expr self.now.room) self.now.room least cursor.old) result cursor.new }
         ensures within { IfOk result (λ x. x.1 ≤ self.now.room + 1) }
@@ -515,12 +538,13 @@ impl<F: Fn(Global, &mut Cursor<'_>, usize, u8) -> Result<(Expr, usize), Stop>> G
 
     // An operator, which comes next, and what is on its right.
     #[tactic(auto, unfolding(crate::specs::Expr::operated))]
+    #[inline(never)]
     fn operated(
         &self,
         cursor: &mut Cursor<'_>,
         left: (Expr, usize),
         operator: Operator,
-    ) -> Result<(Expr, usize), Stop>
+    ) -> Result<(Expr, usize), ReadErr>
         requires nests { Nests self.now.room (F.pre self.now.inner) (F.post self.now.inner) }
         requires level { operator.level ≤ 13 }
         ensures reads { Reads (spec.operated (spec.expr self.now.room) self.now.room left operator cursor.old) result cursor.new }
@@ -548,7 +572,7 @@ impl<F: Fn(Global, &mut Cursor<'_>, usize, u8) -> Result<(Expr, usize), Stop>> G
         cursor: &mut Cursor<'_>,
         least: u8,
         first: (Expr, usize),
-    ) -> Result<(Expr, usize), Stop>
+    ) -> Result<(Expr, usize), ReadErr>
         requires nests { Nests self.now.room (F.pre self.now.inner) (F.post self.now.inner) }
         requires deep { first.1 ≤ self.now.room + 1 }
         ensures reads { Reads (spec.climb (spec.expr self.now.room) self.now.room least first cursor.old) result cursor.new }
@@ -565,7 +589,7 @@ impl<F: Fn(Global, &mut Cursor<'_>, usize, u8) -> Result<(Expr, usize), Stop>> G
     }
 
     #[tactic(auto, unfolding(crate::specs::Expr::level))]
-    fn level(&self, cursor: &mut Cursor<'_>, least: u8) -> Result<(Expr, usize), Stop>
+    fn level(&self, cursor: &mut Cursor<'_>, least: u8) -> Result<(Expr, usize), ReadErr>
         requires { Nests self.now.room (F.pre self.now.inner) (F.post self.now.inner) }
         ensures reads { Reads (spec.level (spec.expr self.now.room) self.now.room least cursor.old) result cursor.new }
         ensures within { IfOk result (λ x. x.1 ≤ self.now.room + 1) }
@@ -577,7 +601,7 @@ impl<F: Fn(Global, &mut Cursor<'_>, usize, u8) -> Result<(Expr, usize), Stop>> G
 
 // Whether an operand begins with a token of this kind, operators before one aside.
 fn begins_operand(kind: &TokenKind) -> bool
-    ensures { result ≡ rows.begins_operand kind.now }
+    ensures { result ≡ productions.begins_operand kind.now }
 {
     match kind {
         TokenKind::Number(_) | TokenKind::Str(_) | TokenKind::Name(_) => true,
@@ -609,7 +633,7 @@ pub fn begins_expr(cursor: &Cursor<'_>) -> bool
 
 // Where no expression can be deep enough: what is wrong with the next token.
 #[tactic(auto, unfolding(crate::specs::Expr::no_room))]
-fn no_room(cursor: &Cursor<'_>, least: u8) -> Stop
+fn no_room(cursor: &Cursor<'_>, least: u8) -> ReadErr
     ensures { spec.no_room least cursor.now ≡ Err (result, cursor.now) }
 {
     match cursor.peek() {
@@ -625,7 +649,7 @@ pub fn expr_in(
     cursor: &mut Cursor<'_>,
     room: usize,
     least: u8,
-) -> Result<(Expr, usize), Stop>
+) -> Result<(Expr, usize), ReadErr>
     requires { room ≤ 200 }
     ensures reads { Reads (spec.expr room least cursor.old) result cursor.new }
     ensures within { IfOk result (λ x. x.1 ≤ room) }

@@ -3,7 +3,7 @@ ghost use Rattle.std.specs.Prelude.{◌≡◌, ◌≤◌, ◌+◌, ◌++◌, ℕ
 ghost use Rattle.fb_lexer.specs.declared.token.Token.{Token};
 ghost use Rattle.fb_base.specs.declared.fault.Fault.{Fault};
 ghost use Rattle.fb_ast.specs.declared.expr.Expr.{Expr};
-ghost use Rattle.parse_expr.specs.declared.stop.ParseErr.TheVariants as errors;
+ghost use Rattle.parse_expr.specs.declared.error.ParseErr.TheVariants as errors;
 ghost use Rattle.parse_expr.specs.Expr.{expr_at};
 ghost use Rattle.parse_expr.specs.Faults.{FirstFault};
 ghost use Rattle.parse_expr.specs.Grammar.{EndsAt, EndsBefore, IsExpression, Stands};

@@ -2,15 +2,16 @@
 #![tactic(auto)]
 
 mod cursor;
+mod error;
 mod grammar;
 mod kinds;
 mod laws;
 mod lists;
 mod reading;
-mod stop;
 mod types;
 
 pub use cursor::Cursor;
+pub use error::{ParseErr, ReadErr};
 pub use grammar::{begins_expr, expr_in};
 pub use kinds::{OperandWord, operand_word};
 pub use laws::{
@@ -18,8 +19,4 @@ pub use laws::{
 };
 pub use lists::room_for_one;
 pub use reading::{error_of, expr};
-pub use stop::{ParseErr, Stop};
 pub use types::{name, type_name};
-
-#[cfg(test)]
-mod tests;

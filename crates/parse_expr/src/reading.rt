@@ -4,8 +4,8 @@ ghost use Rattle.parse_expr.specs.Expr.{Answers, expr_at};
 ghost use Rattle.parse_expr.specs.Faults.{Fails, Longest};
 
 use crate::cursor::Cursor;
+use crate::error::{ParseErr, ReadErr};
 use crate::grammar::expr_in;
-use crate::stop::{ParseErr, Stop};
 use fb_ast::Expr;
 use fb_base::{Fault, Span};
 use fb_lexer::Tokens;
@@ -26,10 +26,10 @@ fn last_place(tokens: &Tokens) -> Span
 }
 
 /// The error of tokens that are not read on: a fault stands at the next token, or at the last one where none is left.
-pub fn error_of(tokens: &Tokens, stop: Stop, cursor: &Cursor<'_>) -> ParseErr
+pub fn error_of(tokens: &Tokens, stop: ReadErr, cursor: &Cursor<'_>) -> ParseErr
     ensures { result ≡ spec.error_of tokens.now.items stop cursor.now }
 {
-    let Stop::Fault(kind) = stop else {
+    let ReadErr::Fault(kind) = stop else {
         return ParseErr::NoMemory;
     };
     let at = match cursor.peek() {

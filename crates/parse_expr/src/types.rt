@@ -5,8 +5,8 @@ ghost use Rattle.parse_expr.specs.Types as spec;
 ghost use Rattle.parse_expr.specs.Words as words;
 
 use crate::cursor::Cursor;
+use crate::error::ReadErr;
 use crate::kinds::{base_word, is_pointer};
-use crate::stop::Stop;
 use fb_ast::{Base, Name, TypeName};
 use fb_base::{FaultKind, NoMemory, Text};
 use fb_lexer::TokenKind;
@@ -55,7 +55,7 @@ fn base_of(alloc: Global, kind: &TokenKind) -> Result<Option<Base>, NoMemory>
 
 /// A type: its word or name, and Ptr or Pointer behind it.
 #[tactic(auto, unfolding(crate::specs::Types::type_name))]
-pub fn type_name(alloc: Global, cursor: &mut Cursor<'_>) -> Result<TypeName, Stop>
+pub fn type_name(alloc: Global, cursor: &mut Cursor<'_>) -> Result<TypeName, ReadErr>
     ensures { Reads (spec.type_name cursor.old) result cursor.new }
 {
     let Some(token) = cursor.peek() else {
@@ -75,11 +75,11 @@ pub fn type_name(alloc: Global, cursor: &mut Cursor<'_>) -> Result<TypeName, Sto
 
 /// A name.
 #[tactic(auto, unfolding(crate::specs::Types::name))]
-pub fn name(alloc: Global, cursor: &mut Cursor<'_>) -> Result<Name, Stop>
+pub fn name(alloc: Global, cursor: &mut Cursor<'_>) -> Result<Name, ReadErr>
     ensures { Reads (spec.name cursor.old) result cursor.new }
 {
     let Some(token) = cursor.peek() else {
-        return Err(Stop::Fault(FaultKind::Expected));
+        return Err(ReadErr::Fault(FaultKind::Expected));
     };
     match &token.kind {
         TokenKind::Name(text) => {
@@ -87,6 +87,6 @@ pub fn name(alloc: Global, cursor: &mut Cursor<'_>) -> Result<Name, Stop>
             cursor.take();
             Ok(Name { at: token.at, text })
         }
-        _ => Err(Stop::Fault(FaultKind::Expected)),
+        _ => Err(ReadErr::Fault(FaultKind::Expected)),
     }
 }

@@ -1,8 +1,8 @@
 -- Loops over things one after another, beside the recursion on a count of turns that they carry out.
 use Rattle.std.proofs.Common.{◌≡◌, ℕ, ◌+◌, ◌-◌, ◌<◌, ◌≤◌, Bool, true, false, if◌then◌else◌, List, Ok, Err, refl}
 use Rattle.fb_lexer.specs.declared.token.Token.{Token}
-use Rattle.parse_expr.specs.declared.stop.Stop.{Stop}
-use Rattle.parse_expr.specs.declared.stop.Stop.TheVariants.{Fault}
+use Rattle.parse_expr.specs.declared.error.ReadErr.{ReadErr}
+use Rattle.parse_expr.specs.declared.error.ReadErr.TheVariants.{Fault}
 use Rattle.parse_expr.specs.Reading.{Outcome, first, next, refusal, and_then, pure}
 use Rattle.parse_expr.proofs.Turns.{one_more, no_more}
 use Rattle.parse_parts.specs.Steps.{Turn, repeat, words, weight_at}
@@ -17,7 +17,7 @@ pub words_out : (n at : ℕ) (ts : List Token) → n ≤ at → words (n - at) t
 unfolding words
 words_out n at ts done = no_more (λ (k : ℕ). words k ts) n at done refl
 
--- ---- rows of things
+-- ---- series of things
 
 module _ {S : Type 0} (turn : Turn S) {x : Outcome S} (n at : ℕ) (found : S) (ts : List Token) (is : x ≡ repeat turn (n - at) found ts) where
   pub one : at < n → x ≡ and_then (turn found ts) (λ p. if p.1 then repeat turn (n - (at + 1)) p.0 else pure p.0)
@@ -33,7 +33,7 @@ module _ {S : Type 0} (turn : Turn S) {x : Outcome S} (n at : ℕ) (found : S) (
   last all more rest below turned stops = let e = one below in rw (turned, stops) at e
 
   -- a turn with a fault
-  pub failed : (stop : Stop) (rest : List Token) → at < n → turn found ts ≡ Err (stop, rest) → x ≡ Err (stop, rest)
+  pub failed : (stop : ReadErr) (rest : List Token) → at < n → turn found ts ≡ Err (stop, rest) → x ≡ Err (stop, rest)
   failed stop rest below turned = let e = one below in rw turned at e
 
   -- no turn is left

@@ -7,10 +7,10 @@ use Rattle.fb_ast.specs.declared.part.Member.{Member}
 use Rattle.fb_ast.specs.declared.part.Member.TheVariants as member
 use Rattle.fb_ast.specs.declared.part.Item.{Item}
 use Rattle.fb_ast.specs.declared.part.Item.TheVariants as item
-use Rattle.parse_expr.specs.declared.stop.Stop.TheVariants.{Fault}
+use Rattle.parse_expr.specs.declared.error.ReadErr.TheVariants.{Fault}
 use Rattle.parse_expr.specs.Reading.{Reader, next, sees_word, expect_word, pure, refuse, ◌>>=◌, ◌>>◌, take_token}
 use Rattle.parse_expr.specs.Types.{type_name, name}
-use Rattle.parse_parts.specs.declared.kinds.Line.TheVariants as lines
+use Rattle.parse_parts.specs.declared.kinds.InLine.TheVariants as lines
 use Rattle.parse_parts.specs.Steps.{place_at, here, sep, sees_name, Turn, all_of}
 use Rattle.parse_parts.specs.Variables.{any_bounds}
 use Rattle.parse_parts.specs.Heads.{any_params, no_params, one_param, declared_head}

@@ -12,12 +12,12 @@ use Rattle.fb_lexer.specs.declared.word.Word.TheVariants as w
 use Rattle.fb_ast.specs.declared.expr.Expr.{Expr}
 use Rattle.fb_ast.specs.declared.part.Name.{Name}
 use Rattle.fb_ast.specs.declared.ty.TypeName.{TypeName}
-use Rattle.parse_expr.specs.declared.stop.Stop.{Stop}
-use Rattle.parse_expr.specs.declared.stop.Stop.TheVariants.{NoMemory, Fault}
+use Rattle.parse_expr.specs.declared.error.ReadErr.{ReadErr}
+use Rattle.parse_expr.specs.declared.error.ReadErr.TheVariants.{NoMemory, Fault}
 use Rattle.parse_expr.specs.Reading.{Reader, Outcome, first, next, holds, sees, sees_word, refusal, pure, stop, refuse, ◌>>=◌, ◌>>◌}
 use Rattle.parse_expr.specs.Types.{type_name, name}
 use Rattle.parse_expr.specs.Expr.{expr, begins, place_or}
-use Rattle.parse_parts.specs.declared.kinds.Line.{Line}
+use Rattle.parse_parts.specs.declared.kinds.InLine.{InLine}
 use Rattle.parse_parts.specs.Words.{is_sep}
 
 -- ---- places
@@ -81,11 +81,11 @@ extra ts = extra_at (first ts)
 
 -- ---- the ends of statements
 
-unfoldable pub sees_sep : Line → List Token → Bool
+unfoldable pub sees_sep : InLine → List Token → Bool
 sees_sep line ts = holds (is_sep line) (first ts)
 
 -- the end of a statement, which has to come next
-unfoldable pub sep : Line → Reader (Unit {0})
+unfoldable pub sep : InLine → Reader (Unit {0})
 sep line = λ ts. if sees_sep line ts then Ok (tt, next ts) else Err (Fault (extra ts), ts)
 
 -- ---- expressions
@@ -136,7 +136,7 @@ any_name = λ ts. if sees_name ts then (do n ← name; pure (Some n)) ts else Ok
 unfoldable pub any_type : Reader (Option TypeName)
 any_type = λ ts. if sees_word w.KwAs ts then (do ty ← type_name; pure (Some ty)) (next ts) else Ok (None, ts)
 
--- ---- rows of things
+-- ---- series of things
 
 -- A turn gives what there is by now, and whether to go on.
 abbrev pub Turn : Type 0 → Type 0
@@ -155,6 +155,6 @@ unfoldable pub comma_behind : {A : Type 0} → List A → A → Reader (List A �
 comma_behind found x = λ ts. if sees Comma ts then Ok ((found ++ x ∷ [], true), next ts) else Ok ((found ++ x ∷ [], false), ts)
 
 -- what a function that does a turn ensures
-abbrev pub Turns : {S : Type 0} → Outcome (S × Bool) → S → Result Bool Stop → List Token → Type 0
+abbrev pub Turns : {S : Type 0} → Outcome (S × Bool) → S → Result Bool ReadErr → List Token → Type 0
 Turns outcome found (Ok more) new = outcome ≡ Ok ((found, more), new)
 Turns outcome found (Err e) new = e ≢ NoMemory → outcome ≡ Err (e, new)

@@ -23,8 +23,8 @@ use Rattle.parse_expr.specs.declared.kinds.OperandWord.TheVariants as operands
 use Rattle.parse_expr.specs.Words.{operand_word}
 use Rattle.parse_parts.specs.declared.kinds.Level.{Level}
 use Rattle.parse_parts.specs.declared.kinds.Level.TheVariants as levels
-use Rattle.parse_parts.specs.declared.kinds.Line.{Line}
-use Rattle.parse_parts.specs.declared.kinds.Line.TheVariants as lines
+use Rattle.parse_parts.specs.declared.kinds.InLine.{InLine}
+use Rattle.parse_parts.specs.declared.kinds.InLine.TheVariants as lines
 use Rattle.parse_parts.specs.declared.kinds.Lead.{Lead}
 use Rattle.parse_parts.specs.declared.kinds.Lead.TheVariants as leads
 use Rattle.parse_parts.specs.declared.kinds.Closer.{Closer}
@@ -37,9 +37,9 @@ level_within levels.Procedure = levels.Procedure
 level_within levels.Main = levels.Main
 level_within levels.Module = levels.Main
 
-abbrev pub line_within : Line → Line
+abbrev pub line_within : InLine → InLine
 line_within lines.Free = lines.Free
-line_within lines.Row = lines.Inner
+line_within lines.Series = lines.Inner
 line_within lines.Inner = lines.Inner
 
 -- ---- what a statement begins with
@@ -110,12 +110,12 @@ lead_of level kinds.LineEnd = leads.Nothing
 -- ---- what ends statements and blocks
 
 -- no line ends within a one-line If
-abbrev pub line_may_end : Line → Bool
+abbrev pub line_may_end : InLine → Bool
 line_may_end lines.Free = true
-line_may_end lines.Row = false
+line_may_end lines.Series = false
 line_may_end lines.Inner = false
 
-abbrev pub is_sep : Line → TokenKind → Bool
+abbrev pub is_sep : InLine → TokenKind → Bool
 is_sep line kinds.Colon = true
 is_sep line kinds.LineEnd = line_may_end line
 is_sep line kind = false

@@ -1,15 +1,15 @@
 //! The tests of a Do, and what the branches of a Select are chosen by.
-ghost use Rattle.std.specs.Prelude.{◌≡◌};
+ghost use Rattle.std.specs.Prelude.{◌≡◌, ⊤};
 ghost use Rattle.parse_expr.specs.Reading.{Reads, first};
-ghost use Rattle.parse_parts.specs.Steps.{Turns};
 ghost use Rattle.parse_parts.specs.Cases as spec;
 
 use crate::kinds::{comparison_of, until_of};
-use crate::steps::{EXPECTED, comma_behind, place_at, whole};
+use crate::steps::{EXPECTED, place_at, whole};
+use crate::turns::{Turning, all_of, comma_behind};
 use fb_ast::{Case, Cases, Comparison, Expr, Test, Until};
 use fb_base::Span;
 use fb_lexer::Word;
-use parse_expr::{Cursor, Stop};
+use parse_expr::{Cursor, ReadErr};
 use sqlite_items::Items;
 use std::alloc::Global;
 
@@ -27,7 +27,7 @@ fn test_by(
     cursor: &mut Cursor<'_>,
     at: Span,
     word: Option<Until>,
-) -> Result<Option<Test>, Stop>
+) -> Result<Option<Test>, ReadErr>
     ensures { Reads (spec.test_by 200 at word cursor.old) result cursor.new }
 {
     match word {
@@ -46,7 +46,8 @@ fn test_by(
 
 /// While or Until and a condition, if they come next.
 #[tactic(auto, unfolding(crate::specs::Cases::any_test))]
-pub fn any_test(alloc: Global, cursor: &mut Cursor<'_>) -> Result<Option<Test>, Stop>
+#[inline(never)]
+pub fn any_test(alloc: Global, cursor: &mut Cursor<'_>) -> Result<Option<Test>, ReadErr>
     ensures { Reads (spec.any_test 200 cursor.old) result cursor.new }
 {
     test_by(alloc, cursor, place_at(cursor), until_at(cursor))
@@ -54,7 +55,12 @@ pub fn any_test(alloc: Global, cursor: &mut Cursor<'_>) -> Result<Option<Test>, 
 
 /// The test behind Loop, if it comes next and none stands behind Do.
 #[tactic(auto, unfolding(crate::specs::Cases::last_test))]
-pub fn last_test(alloc: Global, cursor: &mut Cursor<'_>, tested: bool) -> Result<Option<Test>, Stop>
+#[inline(never)]
+pub fn last_test(
+    alloc: Global,
+    cursor: &mut Cursor<'_>,
+    tested: bool,
+) -> Result<Option<Test>, ReadErr>
     ensures { Reads (spec.last_test 200 tested cursor.old) result cursor.new }
 {
     if tested {
@@ -74,7 +80,7 @@ fn comparison_at(cursor: &Cursor<'_>) -> Option<Comparison>
 
 // Behind Is.
 #[tactic(auto, unfolding(crate::specs::Cases::is_case))]
-fn is_case(alloc: Global, cursor: &mut Cursor<'_>, at: Span) -> Result<Case, Stop>
+fn is_case(alloc: Global, cursor: &mut Cursor<'_>, at: Span) -> Result<Case, ReadErr>
     ensures { Reads (spec.is_case 200 at cursor.old) result cursor.new }
 {
     match comparison_at(cursor) {
@@ -89,7 +95,7 @@ fn is_case(alloc: Global, cursor: &mut Cursor<'_>, at: Span) -> Result<Case, Sto
 
 // Behind the first expression.
 #[tactic(auto, unfolding(crate::specs::Cases::case_from))]
-fn case_from(alloc: Global, cursor: &mut Cursor<'_>, low: Expr) -> Result<Case, Stop>
+fn case_from(alloc: Global, cursor: &mut Cursor<'_>, low: Expr) -> Result<Case, ReadErr>
     ensures { Reads (spec.case_from 200 low cursor.old) result cursor.new }
 {
     if cursor.sees_word(Word::KwTo) {
@@ -101,7 +107,7 @@ fn case_from(alloc: Global, cursor: &mut Cursor<'_>, low: Expr) -> Result<Case, 
 }
 
 #[tactic(auto, unfolding(crate::specs::Cases::one_case))]
-fn one_case(alloc: Global, cursor: &mut Cursor<'_>) -> Result<Case, Stop>
+fn one_case(alloc: Global, cursor: &mut Cursor<'_>) -> Result<Case, ReadErr>
     ensures { Reads (spec.one_case 200 cursor.old) result cursor.new }
 {
     if cursor.sees_word(Word::KwIs) {
@@ -113,31 +119,36 @@ fn one_case(alloc: Global, cursor: &mut Cursor<'_>) -> Result<Case, Stop>
     case_from(alloc, cursor, low)
 }
 
-#[tactic(auto, unfolding(crate::specs::Cases::case_turn))]
-fn case_turn(alloc: Global, cursor: &mut Cursor<'_>, found: &mut Items<Case>) -> Result<bool, Stop>
-    ensures { Turns (spec.case_turn 200 found.old cursor.old) found.new result cursor.new }
-{
-    let one = one_case(alloc, cursor)?;
-    comma_behind(cursor, found, one)
+struct CaseTurns;
+
+impl Turning<Items<Case>> for CaseTurns {
+    ghost ready = { λ _. ⊤ };
+
+    ghost turned = { λ _. spec.case_turn 200 };
+
+    #[tactic(auto, unfolding(crate::specs::Cases::case_turn))]
+    fn turn(
+        &self,
+        alloc: Global,
+        cursor: &mut Cursor<'_>,
+        found: &mut Items<Case>,
+    ) -> Result<bool, ReadErr> {
+        let one = one_case(alloc, cursor)?;
+        comma_behind(cursor, found, one)
+    }
 }
 
 #[tactic(auto, unfolding(crate::specs::Cases::case_list))]
-fn case_list(alloc: Global, cursor: &mut Cursor<'_>) -> Result<Items<Case>, Stop>
+fn case_list(alloc: Global, cursor: &mut Cursor<'_>) -> Result<Items<Case>, ReadErr>
     ensures { Reads (spec.case_list 200 cursor.old) result cursor.new }
 {
-    let mut found = Items::new(alloc);
-    for _turn in 0..cursor.left() + 1 {
-        let more = case_turn(alloc, cursor, &mut found)?;
-        if !more {
-            return Ok(found);
-        }
-    }
-    Err(cursor.refuse())
+    all_of(alloc, cursor, &CaseTurns, Items::new(alloc))
 }
 
 /// What a branch of a Select is chosen by, behind Case (FreeBASIC Manual, Select Case).
 #[tactic(auto, unfolding(crate::specs::Cases::cases_))]
-pub fn cases_(alloc: Global, cursor: &mut Cursor<'_>) -> Result<Cases, Stop>
+#[inline(never)]
+pub fn cases_(alloc: Global, cursor: &mut Cursor<'_>) -> Result<Cases, ReadErr>
     ensures { Reads (spec.cases_ 200 cursor.old) result cursor.new }
 {
     if cursor.sees_word(Word::KwElse) {

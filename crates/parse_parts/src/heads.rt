@@ -1,15 +1,15 @@
 //! Heads, Declares and procedures.
-ghost use Rattle.std.specs.Prelude.{◌≡◌, [], Ok};
+ghost use Rattle.std.specs.Prelude.{◌≡◌, [], Ok, ⊤};
 ghost use Rattle.parse_expr.specs.Reading.{Reads, first};
 ghost use Rattle.parse_parts.specs.Heads as spec;
-ghost use Rattle.parse_parts.specs.Steps.{Turns};
 
 use crate::kinds::{Closer, ProcedureWord, operator_of};
-use crate::steps::{any_name, any_type, comma_behind, place_at, sees_name};
+use crate::steps::{any_name, any_type, place_at, sees_name};
+use crate::turns::{Turning, all_of, comma_behind};
 use fb_ast::{Binary, Head, Item, Mode, Name, Param, ProcedureKind};
 use fb_base::{FaultKind, Span};
 use fb_lexer::{Mark, Word};
-use parse_expr::{Cursor, Stop, name, type_name};
+use parse_expr::{Cursor, ReadErr, name, type_name};
 use sqlite_items::Items;
 use std::alloc::Global;
 
@@ -31,7 +31,11 @@ fn any_mode(cursor: &mut Cursor<'_>) -> Option<Mode>
 }
 
 // A parameter's name, which may be missing only in a Declare and in a Type.
-fn param_name(alloc: Global, cursor: &mut Cursor<'_>, nameless: bool) -> Result<Option<Name>, Stop>
+fn param_name(
+    alloc: Global,
+    cursor: &mut Cursor<'_>,
+    nameless: bool,
+) -> Result<Option<Name>, ReadErr>
     ensures { Reads (spec.param_name nameless cursor.old) result cursor.new }
 {
     if nameless {
@@ -42,7 +46,7 @@ fn param_name(alloc: Global, cursor: &mut Cursor<'_>, nameless: bool) -> Result<
 }
 
 #[tactic(auto, unfolding(crate::specs::Heads::param))]
-fn param(alloc: Global, cursor: &mut Cursor<'_>, nameless: bool) -> Result<Param, Stop>
+fn param(alloc: Global, cursor: &mut Cursor<'_>, nameless: bool) -> Result<Param, ReadErr>
     ensures { Reads (spec.param nameless cursor.old) result cursor.new }
 {
     let at = place_at(cursor);
@@ -53,36 +57,46 @@ fn param(alloc: Global, cursor: &mut Cursor<'_>, nameless: bool) -> Result<Param
     Ok(Param { at, mode, name, ty })
 }
 
-#[tactic(auto, unfolding(crate::specs::Heads::param_turn))]
-fn param_turn(
-    alloc: Global,
-    cursor: &mut Cursor<'_>,
+#[derive(Drop)]
+struct ParamTurns {
     nameless: bool,
-    found: &mut Items<Param>,
-) -> Result<bool, Stop>
-    ensures { Turns (spec.param_turn nameless found.old cursor.old) found.new result cursor.new }
-{
-    let one = param(alloc, cursor, nameless)?;
-    comma_behind(cursor, found, one)
+}
+
+impl Turning<Items<Param>> for ParamTurns {
+    ghost ready = { λ _. ⊤ };
+
+    ghost turned = { λ p. spec.param_turn p.nameless };
+
+    #[tactic(auto, unfolding(crate::specs::Heads::param_turn))]
+    fn turn(
+        &self,
+        alloc: Global,
+        cursor: &mut Cursor<'_>,
+        found: &mut Items<Param>,
+    ) -> Result<bool, ReadErr> {
+        let one = param(alloc, cursor, self.nameless)?;
+        comma_behind(cursor, found, one)
+    }
 }
 
 #[tactic(auto, unfolding(crate::specs::Heads::param_list, crate::specs::Steps::repeat))]
-fn param_list(alloc: Global, cursor: &mut Cursor<'_>, nameless: bool) -> Result<Items<Param>, Stop>
+fn param_list(
+    alloc: Global,
+    cursor: &mut Cursor<'_>,
+    nameless: bool,
+) -> Result<Items<Param>, ReadErr>
     ensures { Reads (spec.param_list nameless cursor.old) result cursor.new }
 {
-    let mut found = Items::new(alloc);
-    for _turn in 0..cursor.left() + 1 {
-        let more = param_turn(alloc, cursor, nameless, &mut found)?;
-        if !more {
-            return Ok(found);
-        }
-    }
-    Err(cursor.refuse())
+    all_of(alloc, cursor, &ParamTurns { nameless }, Items::new(alloc))
 }
 
 // Parameters and the closing parenthesis.
 #[tactic(auto, unfolding(crate::specs::Heads::some_params))]
-fn some_params(alloc: Global, cursor: &mut Cursor<'_>, nameless: bool) -> Result<Items<Param>, Stop>
+fn some_params(
+    alloc: Global,
+    cursor: &mut Cursor<'_>,
+    nameless: bool,
+) -> Result<Items<Param>, ReadErr>
     ensures { Reads (spec.some_params nameless cursor.old) result cursor.new }
 {
     let all = param_list(alloc, cursor, nameless)?;
@@ -96,7 +110,7 @@ fn params_behind(
     alloc: Global,
     cursor: &mut Cursor<'_>,
     nameless: bool,
-) -> Result<Items<Param>, Stop>
+) -> Result<Items<Param>, ReadErr>
     ensures { Reads (spec.params_behind nameless cursor.old) result cursor.new }
 {
     if cursor.sees(Mark::Close) {
@@ -112,7 +126,7 @@ pub fn any_params(
     alloc: Global,
     cursor: &mut Cursor<'_>,
     nameless: bool,
-) -> Result<Items<Param>, Stop>
+) -> Result<Items<Param>, ReadErr>
     ensures { Reads (spec.any_params nameless cursor.old) result cursor.new }
 {
     if cursor.sees(Mark::Open) {
@@ -124,7 +138,7 @@ pub fn any_params(
 
 // One parameter in parentheses.
 #[tactic(auto, unfolding(crate::specs::Heads::one_param))]
-pub fn one_param(alloc: Global, cursor: &mut Cursor<'_>, nameless: bool) -> Result<Param, Stop>
+pub fn one_param(alloc: Global, cursor: &mut Cursor<'_>, nameless: bool) -> Result<Param, ReadErr>
     ensures { Reads (spec.one_param nameless cursor.old) result cursor.new }
 {
     cursor.expect(Mark::Open)?;
@@ -135,7 +149,7 @@ pub fn one_param(alloc: Global, cursor: &mut Cursor<'_>, nameless: bool) -> Resu
 
 // Empty parentheses, if they come next.
 #[tactic(auto, unfolding(crate::specs::Heads::no_params))]
-pub fn no_params(cursor: &mut Cursor<'_>) -> Result<(), Stop>
+pub fn no_params(cursor: &mut Cursor<'_>) -> Result<(), ReadErr>
     ensures { Reads (spec.no_params cursor.old) result cursor.new }
 {
     if cursor.sees(Mark::Open) {
@@ -166,7 +180,7 @@ fn sub_head(
     at: Span,
     name: Name,
     nameless: bool,
-) -> Result<Head, Stop>
+) -> Result<Head, ReadErr>
     ensures { Reads (spec.sub_head at name nameless cursor.old) result cursor.new }
 {
     let more = overload(cursor);
@@ -182,7 +196,7 @@ fn function_head(
     at: Span,
     name: Name,
     nameless: bool,
-) -> Result<Head, Stop>
+) -> Result<Head, ReadErr>
     ensures { Reads (spec.function_head at name nameless cursor.old) result cursor.new }
 {
     let more = overload(cursor);
@@ -194,7 +208,7 @@ fn function_head(
 
 // The head of a Declare, which has no body.
 #[tactic(auto, unfolding(crate::specs::Heads::declared_head))]
-pub fn declared_head(alloc: Global, cursor: &mut Cursor<'_>) -> Result<Head, Stop>
+pub fn declared_head(alloc: Global, cursor: &mut Cursor<'_>) -> Result<Head, ReadErr>
     ensures { Reads (spec.declared_head cursor.old) result cursor.new }
 {
     let at = place_at(cursor);
@@ -219,7 +233,7 @@ fn operator_at(cursor: &Cursor<'_>) -> Option<Binary>
 
 // The mark of an operator that a text may declare.
 #[tactic(auto, unfolding(crate::specs::Heads::operator_mark))]
-fn operator_mark(cursor: &mut Cursor<'_>) -> Result<Binary, Stop>
+fn operator_mark(cursor: &mut Cursor<'_>) -> Result<Binary, ReadErr>
     ensures { Reads (spec.operator_mark cursor.old) result cursor.new }
 {
     match operator_at(cursor) {
@@ -227,13 +241,13 @@ fn operator_mark(cursor: &mut Cursor<'_>) -> Result<Binary, Stop>
             cursor.take();
             Ok(which)
         }
-        None => Err(Stop::Fault(FaultKind::Expected)),
+        None => Err(ReadErr::Fault(FaultKind::Expected)),
     }
 }
 
 // Behind Declare Operator.
 #[tactic(auto, unfolding(crate::specs::Heads::declared_operator))]
-fn declared_operator(alloc: Global, cursor: &mut Cursor<'_>, at: Span) -> Result<Item, Stop>
+fn declared_operator(alloc: Global, cursor: &mut Cursor<'_>, at: Span) -> Result<Item, ReadErr>
     ensures { Reads (spec.declared_operator at cursor.old) result cursor.new }
 {
     let mark_at = place_at(cursor);
@@ -247,7 +261,7 @@ fn declared_operator(alloc: Global, cursor: &mut Cursor<'_>, at: Span) -> Result
 
 // Behind Declare.
 #[tactic(auto, unfolding(crate::specs::Heads::declared))]
-pub fn declared(alloc: Global, cursor: &mut Cursor<'_>, at: Span) -> Result<Item, Stop>
+pub fn declared(alloc: Global, cursor: &mut Cursor<'_>, at: Span) -> Result<Item, ReadErr>
     ensures { Reads (spec.declared at cursor.old) result cursor.new }
 {
     if cursor.sees_word(Word::KwOperator) {
@@ -267,7 +281,7 @@ fn member_sub(
     cursor: &mut Cursor<'_>,
     at: Span,
     ty: Name,
-) -> Result<(ProcedureKind, Closer), Stop>
+) -> Result<(ProcedureKind, Closer), ReadErr>
     ensures { Reads (spec.member_sub at ty cursor.old) result cursor.new }
 {
     let name = name(alloc, cursor)?;
@@ -283,7 +297,7 @@ fn member_function(
     cursor: &mut Cursor<'_>,
     at: Span,
     ty: Name,
-) -> Result<(ProcedureKind, Closer), Stop>
+) -> Result<(ProcedureKind, Closer), ReadErr>
     ensures { Reads (spec.member_function at ty cursor.old) result cursor.new }
 {
     let name = name(alloc, cursor)?;
@@ -300,7 +314,7 @@ fn sub_behind(
     cursor: &mut Cursor<'_>,
     at: Span,
     name: Name,
-) -> Result<(ProcedureKind, Closer), Stop>
+) -> Result<(ProcedureKind, Closer), ReadErr>
     ensures { Reads (spec.sub_behind at name cursor.old) result cursor.new }
 {
     if cursor.sees(Mark::Dot) {
@@ -318,7 +332,7 @@ fn function_behind(
     cursor: &mut Cursor<'_>,
     at: Span,
     name: Name,
-) -> Result<(ProcedureKind, Closer), Stop>
+) -> Result<(ProcedureKind, Closer), ReadErr>
     ensures { Reads (spec.function_behind at name cursor.old) result cursor.new }
 {
     if cursor.sees(Mark::Dot) {
@@ -334,7 +348,7 @@ fn sub_opened(
     alloc: Global,
     cursor: &mut Cursor<'_>,
     at: Span,
-) -> Result<(ProcedureKind, Closer), Stop>
+) -> Result<(ProcedureKind, Closer), ReadErr>
     ensures { Reads (spec.sub_opened at cursor.old) result cursor.new }
 {
     let name = name(alloc, cursor)?;
@@ -346,7 +360,7 @@ fn function_opened(
     alloc: Global,
     cursor: &mut Cursor<'_>,
     at: Span,
-) -> Result<(ProcedureKind, Closer), Stop>
+) -> Result<(ProcedureKind, Closer), ReadErr>
     ensures { Reads (spec.function_opened at cursor.old) result cursor.new }
 {
     let name = name(alloc, cursor)?;
@@ -358,7 +372,7 @@ fn constructor(
     alloc: Global,
     cursor: &mut Cursor<'_>,
     at: Span,
-) -> Result<(ProcedureKind, Closer), Stop>
+) -> Result<(ProcedureKind, Closer), ReadErr>
     ensures { Reads (spec.constructor at cursor.old) result cursor.new }
 {
     let name = name(alloc, cursor)?;
@@ -374,7 +388,7 @@ fn destructor(
     alloc: Global,
     cursor: &mut Cursor<'_>,
     at: Span,
-) -> Result<(ProcedureKind, Closer), Stop>
+) -> Result<(ProcedureKind, Closer), ReadErr>
     ensures { Reads (spec.destructor at cursor.old) result cursor.new }
 {
     let name = name(alloc, cursor)?;
@@ -388,7 +402,7 @@ fn let_operator(
     alloc: Global,
     cursor: &mut Cursor<'_>,
     at: Span,
-) -> Result<(ProcedureKind, Closer), Stop>
+) -> Result<(ProcedureKind, Closer), ReadErr>
     ensures { Reads (spec.let_operator at cursor.old) result cursor.new }
 {
     let name = name(alloc, cursor)?;
@@ -401,7 +415,7 @@ fn let_operator(
 }
 
 #[tactic(auto, unfolding(crate::specs::Heads::two_params))]
-fn two_params(alloc: Global, cursor: &mut Cursor<'_>) -> Result<(Param, Param), Stop>
+fn two_params(alloc: Global, cursor: &mut Cursor<'_>) -> Result<(Param, Param), ReadErr>
     ensures { Reads (spec.two_params cursor.old) result cursor.new }
 {
     cursor.expect(Mark::Open)?;
@@ -418,7 +432,7 @@ fn mark_operator(
     alloc: Global,
     cursor: &mut Cursor<'_>,
     at: Span,
-) -> Result<(ProcedureKind, Closer), Stop>
+) -> Result<(ProcedureKind, Closer), ReadErr>
     ensures { Reads (spec.mark_operator at cursor.old) result cursor.new }
 {
     let mark_at = place_at(cursor);
@@ -435,7 +449,7 @@ fn operator_behind(
     alloc: Global,
     cursor: &mut Cursor<'_>,
     at: Span,
-) -> Result<(ProcedureKind, Closer), Stop>
+) -> Result<(ProcedureKind, Closer), ReadErr>
     ensures { Reads (spec.operator_behind at cursor.old) result cursor.new }
 {
     if sees_name(cursor) {
@@ -450,7 +464,7 @@ pub fn opened(
     cursor: &mut Cursor<'_>,
     word: ProcedureWord,
     at: Span,
-) -> Result<(ProcedureKind, Closer), Stop>
+) -> Result<(ProcedureKind, Closer), ReadErr>
     ensures { Reads (spec.opened word at cursor.old) result cursor.new }
 {
     match word {

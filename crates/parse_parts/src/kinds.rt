@@ -20,11 +20,11 @@ pub enum Level {
 
 /// Where a statement stands in its line.
 #[derive(Clone, Copy, Debug, PartialEq, Eq)]
-pub enum Line {
+pub enum InLine {
     /// It is no part of a one-line If.
     Free,
     /// It is a statement of a one-line If itself.
-    Row,
+    Series,
     /// It stands in a block that is part of a one-line If.
     Inner,
 }
@@ -33,7 +33,7 @@ pub enum Line {
 #[derive(Clone, Copy, Debug, PartialEq, Eq)]
 pub struct Spot {
     pub level: Level,
-    pub line: Line,
+    pub line: InLine,
     pub other: FaultKind,
 }
 
@@ -102,12 +102,12 @@ pub fn level_within(level: Level) -> Level
 }
 
 /// Where the statements of a block stand in their line that begins here.
-pub fn line_within(line: Line) -> Line
+pub fn line_within(line: InLine) -> InLine
     ensures { result ≡ spec.line_within line }
 {
     match line {
-        Line::Free => Line::Free,
-        Line::Row | Line::Inner => Line::Inner,
+        InLine::Free => InLine::Free,
+        InLine::Series | InLine::Inner => InLine::Inner,
     }
 }
 
@@ -207,14 +207,14 @@ pub fn lead_of(level: Level, kind: &TokenKind) -> Lead
 }
 
 /// Whether a token of this kind ends a statement: a colon, or a line end where none is forbidden.
-pub fn is_sep(line: Line, kind: &TokenKind) -> bool
+pub fn is_sep(line: InLine, kind: &TokenKind) -> bool
     ensures { result ≡ spec.is_sep line kind.now }
 {
     match kind {
         TokenKind::Colon => true,
         TokenKind::LineEnd => match line {
-            Line::Free => true,
-            Line::Row | Line::Inner => false,
+            InLine::Free => true,
+            InLine::Series | InLine::Inner => false,
         },
         _ => false,
     }

@@ -1,22 +1,23 @@
 //! Types and their members.
-ghost use Rattle.std.specs.Prelude.{◌≡◌};
+ghost use Rattle.std.specs.Prelude.{◌≡◌, ⊤};
 ghost use Rattle.parse_expr.specs.Reading.{Reads};
 ghost use Rattle.parse_parts.specs.Members as spec;
 ghost use Rattle.parse_parts.specs.Steps.{Turns};
 
 use crate::heads::{any_params, declared_head, no_params, one_param};
-use crate::kinds::Line;
+use crate::kinds::InLine;
 use crate::steps::{EXPECTED, place_at, sees_name, sep};
+use crate::turns::{Turning, all_of};
 use crate::variables::any_bounds;
 use fb_ast::{Item, Member};
 use fb_base::Span;
 use fb_lexer::Word;
-use parse_expr::{Cursor, Stop, name, type_name};
+use parse_expr::{Cursor, ReadErr, name, type_name};
 use sqlite_items::Items;
 use std::alloc::Global;
 
 #[tactic(auto, unfolding(crate::specs::Members::field))]
-fn field(alloc: Global, cursor: &mut Cursor<'_>) -> Result<Member, Stop>
+fn field(alloc: Global, cursor: &mut Cursor<'_>) -> Result<Member, ReadErr>
     ensures { Reads (spec.field 200 cursor.old) result cursor.new }
 {
     let name = name(alloc, cursor)?;
@@ -28,7 +29,7 @@ fn field(alloc: Global, cursor: &mut Cursor<'_>) -> Result<Member, Stop>
 
 // Behind Declare Operator.
 #[tactic(auto, unfolding(crate::specs::Members::let_member))]
-fn let_member(alloc: Global, cursor: &mut Cursor<'_>, at: Span) -> Result<Member, Stop>
+fn let_member(alloc: Global, cursor: &mut Cursor<'_>, at: Span) -> Result<Member, ReadErr>
     ensures { Reads (spec.let_member at cursor.old) result cursor.new }
 {
     let let_at = place_at(cursor);
@@ -38,7 +39,7 @@ fn let_member(alloc: Global, cursor: &mut Cursor<'_>, at: Span) -> Result<Member
 }
 
 #[tactic(auto, unfolding(crate::specs::Members::constructor_member))]
-fn constructor_member(alloc: Global, cursor: &mut Cursor<'_>, at: Span) -> Result<Member, Stop>
+fn constructor_member(alloc: Global, cursor: &mut Cursor<'_>, at: Span) -> Result<Member, ReadErr>
     ensures { Reads (spec.constructor_member at cursor.old) result cursor.new }
 {
     let word_at = place_at(cursor);
@@ -48,7 +49,7 @@ fn constructor_member(alloc: Global, cursor: &mut Cursor<'_>, at: Span) -> Resul
 }
 
 #[tactic(auto, unfolding(crate::specs::Members::destructor_member))]
-fn destructor_member(cursor: &mut Cursor<'_>, at: Span) -> Result<Member, Stop>
+fn destructor_member(cursor: &mut Cursor<'_>, at: Span) -> Result<Member, ReadErr>
     ensures { Reads (spec.destructor_member at cursor.old) result cursor.new }
 {
     let word_at = place_at(cursor);
@@ -58,7 +59,7 @@ fn destructor_member(cursor: &mut Cursor<'_>, at: Span) -> Result<Member, Stop>
 }
 
 #[tactic(auto, unfolding(crate::specs::Members::head_member))]
-fn head_member(alloc: Global, cursor: &mut Cursor<'_>, at: Span) -> Result<Member, Stop>
+fn head_member(alloc: Global, cursor: &mut Cursor<'_>, at: Span) -> Result<Member, ReadErr>
     ensures { Reads (spec.head_member at cursor.old) result cursor.new }
 {
     let head = declared_head(alloc, cursor)?;
@@ -67,7 +68,7 @@ fn head_member(alloc: Global, cursor: &mut Cursor<'_>, at: Span) -> Result<Membe
 
 // Behind Declare in a Type.
 #[tactic(auto, unfolding(crate::specs::Members::declared_member))]
-fn declared_member(alloc: Global, cursor: &mut Cursor<'_>, at: Span) -> Result<Member, Stop>
+fn declared_member(alloc: Global, cursor: &mut Cursor<'_>, at: Span) -> Result<Member, ReadErr>
     ensures { Reads (spec.declared_member at cursor.old) result cursor.new }
 {
     if cursor.sees_word(Word::KwConstructor) {
@@ -85,7 +86,7 @@ fn declared_member(alloc: Global, cursor: &mut Cursor<'_>, at: Span) -> Result<M
 
 // A field or a Declare.
 #[tactic(auto, unfolding(crate::specs::Members::one_member))]
-fn one_member(alloc: Global, cursor: &mut Cursor<'_>) -> Result<Member, Stop>
+fn one_member(alloc: Global, cursor: &mut Cursor<'_>) -> Result<Member, ReadErr>
     ensures { Reads (spec.one_member 200 cursor.old) result cursor.new }
 {
     if cursor.sees_word(Word::KwDeclare) {
@@ -105,10 +106,10 @@ fn ended_member(
     cursor: &mut Cursor<'_>,
     found: &mut Items<Member>,
     one: Member,
-) -> Result<bool, Stop>
+) -> Result<bool, ReadErr>
     ensures { Turns (spec.ended_member found.old one cursor.old) found.new result cursor.new }
 {
-    sep(cursor, Line::Free)?;
+    sep(cursor, InLine::Free)?;
     found.push(one)?;
     Ok(true)
 }
@@ -134,47 +135,47 @@ fn has_field(members: &[Member]) -> bool
 }
 
 // One more member, if the Type doesn't end: it has a field at least.
-#[tactic(auto, unfolding(crate::specs::Members::member_turn))]
-fn member_turn(
-    alloc: Global,
-    cursor: &mut Cursor<'_>,
-    found: &mut Items<Member>,
-) -> Result<bool, Stop>
-    ensures { Turns (spec.member_turn 200 found.old cursor.old) found.new result cursor.new }
-{
-    if cursor.sees_word(Word::KwEnd) {
-        if has_field(found.as_slice()) {
-            return Ok(false);
+struct MemberTurns;
+
+impl Turning<Items<Member>> for MemberTurns {
+    ghost ready = { λ _. ⊤ };
+
+    ghost turned = { λ _. spec.member_turn 200 };
+
+    #[tactic(auto, unfolding(crate::specs::Members::member_turn))]
+    fn turn(
+        &self,
+        alloc: Global,
+        cursor: &mut Cursor<'_>,
+        found: &mut Items<Member>,
+    ) -> Result<bool, ReadErr> {
+        if cursor.sees_word(Word::KwEnd) {
+            if has_field(found.as_slice()) {
+                return Ok(false);
+            }
+            return Err(EXPECTED);
         }
-        return Err(EXPECTED);
+        let one = one_member(alloc, cursor)?;
+        ended_member(cursor, found, one)
     }
-    let one = one_member(alloc, cursor)?;
-    ended_member(cursor, found, one)
 }
 
 #[tactic(auto, unfolding(crate::specs::Members::members, crate::specs::Steps::repeat))]
-fn members(alloc: Global, cursor: &mut Cursor<'_>) -> Result<Items<Member>, Stop>
+fn members(alloc: Global, cursor: &mut Cursor<'_>) -> Result<Items<Member>, ReadErr>
     ensures { Reads (spec.members 200 cursor.old) result cursor.new }
 {
-    let mut found = Items::new(alloc);
-    for _turn in 0..cursor.left() + 1 {
-        let more = member_turn(alloc, cursor, &mut found)?;
-        if !more {
-            return Ok(found);
-        }
-    }
-    Err(cursor.refuse())
+    all_of(alloc, cursor, &MemberTurns, Items::new(alloc))
 }
 
 /// A Type from its word on up to the word behind its End.
 #[tactic(auto, unfolding(crate::specs::Members::type_def))]
-pub fn type_def(alloc: Global, cursor: &mut Cursor<'_>) -> Result<Item, Stop>
+pub fn type_def(alloc: Global, cursor: &mut Cursor<'_>) -> Result<Item, ReadErr>
     ensures { Reads (spec.type_def 200 cursor.old) result cursor.new }
 {
     let at = place_at(cursor);
     cursor.take();
     let name = name(alloc, cursor)?;
-    sep(cursor, Line::Free)?;
+    sep(cursor, InLine::Free)?;
     let all = members(alloc, cursor)?;
     cursor.expect_word(Word::KwEnd)?;
     cursor.expect_word(Word::KwType)?;

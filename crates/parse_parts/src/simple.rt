@@ -1,17 +1,16 @@
 //! Statements without statements inside.
-ghost use Rattle.std.specs.Prelude.{◌≡◌};
+ghost use Rattle.std.specs.Prelude.{◌≡◌, ⊤};
 ghost use Rattle.parse_expr.specs.Reading.{Reads, first, holds};
 ghost use Rattle.parse_parts.specs.Steps.{Turns};
 ghost use Rattle.parse_parts.specs.Simple as spec;
 
 use crate::kinds::{assignment_of, continue_of, exit_of};
-use crate::steps::{
-    EXPECTED, any_value, comma_behind, no_value, place, place_at, sees_name, sees_value, whole,
-};
+use crate::steps::{EXPECTED, any_value, no_value, place, place_at, sees_name, sees_value, whole};
+use crate::turns::{Turning, all_of, comma_behind};
 use fb_ast::{Assignment, CallWord, End, Expr, Name, Printed, Stmt};
 use fb_base::Span;
 use fb_lexer::{Mark, TokenKind, Word};
-use parse_expr::{Cursor, Stop, name};
+use parse_expr::{Cursor, ReadErr, name};
 use sqlite_items::Items;
 use std::alloc::Global;
 
@@ -42,7 +41,7 @@ fn assign(
     at: Span,
     left: Expr,
     mark: (Assignment, Span),
-) -> Result<Stmt, Stop>
+) -> Result<Stmt, ReadErr>
     ensures { Reads (spec.assign 200 at left mark.0 mark.1 cursor.old) result cursor.new }
 {
     cursor.take();
@@ -53,7 +52,12 @@ fn assign(
 
 // What is no call has to be assigned to.
 #[tactic(auto, unfolding(crate::specs::Simple::must_assign))]
-fn must_assign(alloc: Global, cursor: &mut Cursor<'_>, at: Span, left: Expr) -> Result<Stmt, Stop>
+fn must_assign(
+    alloc: Global,
+    cursor: &mut Cursor<'_>,
+    at: Span,
+    left: Expr,
+) -> Result<Stmt, ReadErr>
     ensures { Reads (spec.must_assign 200 at left cursor.old) result cursor.new }
 {
     match assignment_at(cursor) {
@@ -63,7 +67,7 @@ fn must_assign(alloc: Global, cursor: &mut Cursor<'_>, at: Span, left: Expr) -> 
 }
 
 #[tactic(auto, unfolding(crate::specs::Simple::may_assign))]
-fn may_assign(alloc: Global, cursor: &mut Cursor<'_>, at: Span, left: Expr) -> Result<Stmt, Stop>
+fn may_assign(alloc: Global, cursor: &mut Cursor<'_>, at: Span, left: Expr) -> Result<Stmt, ReadErr>
     ensures { Reads (spec.may_assign 200 at left cursor.old) result cursor.new }
 {
     match assignment_at(cursor) {
@@ -72,31 +76,35 @@ fn may_assign(alloc: Global, cursor: &mut Cursor<'_>, at: Span, left: Expr) -> R
     }
 }
 
-#[tactic(auto, unfolding(crate::specs::Simple::value_turn))]
-fn value_turn(alloc: Global, cursor: &mut Cursor<'_>, found: &mut Items<Expr>) -> Result<bool, Stop>
-    ensures { Turns (spec.value_turn 200 found.old cursor.old) found.new result cursor.new }
-{
-    let one = whole(alloc, cursor)?;
-    comma_behind(cursor, found, one)
+struct ValueTurns;
+
+impl Turning<Items<Expr>> for ValueTurns {
+    ghost ready = { λ _. ⊤ };
+
+    ghost turned = { λ _. spec.value_turn 200 };
+
+    #[tactic(auto, unfolding(crate::specs::Simple::value_turn))]
+    fn turn(
+        &self,
+        alloc: Global,
+        cursor: &mut Cursor<'_>,
+        found: &mut Items<Expr>,
+    ) -> Result<bool, ReadErr> {
+        let one = whole(alloc, cursor)?;
+        comma_behind(cursor, found, one)
+    }
 }
 
 #[tactic(auto, unfolding(crate::specs::Simple::values))]
-fn values(alloc: Global, cursor: &mut Cursor<'_>) -> Result<Items<Expr>, Stop>
+fn values(alloc: Global, cursor: &mut Cursor<'_>) -> Result<Items<Expr>, ReadErr>
     ensures { Reads (spec.values 200 cursor.old) result cursor.new }
 {
-    let mut found = Items::new(alloc);
-    for _turn in 0..cursor.left() + 1 {
-        let more = value_turn(alloc, cursor, &mut found)?;
-        if !more {
-            return Ok(found);
-        }
-    }
-    Err(cursor.refuse())
+    all_of(alloc, cursor, &ValueTurns, Items::new(alloc))
 }
 
 // Arguments without parentheses, perhaps none.
 #[tactic(auto, unfolding(crate::specs::Simple::arguments))]
-fn arguments(alloc: Global, cursor: &mut Cursor<'_>) -> Result<Items<Expr>, Stop>
+fn arguments(alloc: Global, cursor: &mut Cursor<'_>) -> Result<Items<Expr>, ReadErr>
     ensures { Reads (spec.arguments 200 cursor.old) result cursor.new }
 {
     if sees_value(cursor) {
@@ -107,7 +115,12 @@ fn arguments(alloc: Global, cursor: &mut Cursor<'_>) -> Result<Items<Expr>, Stop
 }
 
 #[tactic(auto, unfolding(crate::specs::Simple::call_name))]
-fn call_name(alloc: Global, cursor: &mut Cursor<'_>, at: Span, callee: Name) -> Result<Stmt, Stop>
+fn call_name(
+    alloc: Global,
+    cursor: &mut Cursor<'_>,
+    at: Span,
+    callee: Name,
+) -> Result<Stmt, ReadErr>
     ensures { Reads (spec.call_name 200 at callee cursor.old) result cursor.new }
 {
     let all = arguments(alloc, cursor)?;
@@ -116,7 +129,7 @@ fn call_name(alloc: Global, cursor: &mut Cursor<'_>, at: Span, callee: Name) -> 
 
 // Behind a name with which nothing goes on.
 #[tactic(auto, unfolding(crate::specs::Simple::named))]
-fn named(alloc: Global, cursor: &mut Cursor<'_>, at: Span, found: Name) -> Result<Stmt, Stop>
+fn named(alloc: Global, cursor: &mut Cursor<'_>, at: Span, found: Name) -> Result<Stmt, ReadErr>
     ensures { Reads (spec.named 200 at found cursor.old) result cursor.new }
 {
     match assignment_at(cursor) {
@@ -135,7 +148,7 @@ fn is_call(tree: &Expr) -> bool
 }
 
 #[tactic(auto, unfolding(crate::specs::Simple::headed))]
-fn headed(alloc: Global, cursor: &mut Cursor<'_>, at: Span, head: Expr) -> Result<Stmt, Stop>
+fn headed(alloc: Global, cursor: &mut Cursor<'_>, at: Span, head: Expr) -> Result<Stmt, ReadErr>
     ensures { Reads (spec.headed 200 at head cursor.old) result cursor.new }
 {
     if is_call(&head) {
@@ -181,7 +194,8 @@ fn sees_bare(cursor: &Cursor<'_>) -> bool
 
 /// A statement that begins with an operand, which comes next: an assignment or a call.
 #[tactic(auto, unfolding(crate::specs::Simple::valued))]
-pub fn valued(alloc: Global, cursor: &mut Cursor<'_>, at: Span) -> Result<Stmt, Stop>
+#[inline(never)]
+pub fn valued(alloc: Global, cursor: &mut Cursor<'_>, at: Span) -> Result<Stmt, ReadErr>
     ensures { Reads (spec.valued 200 at cursor.old) result cursor.new }
 {
     if sees_bare(cursor) {
@@ -203,12 +217,13 @@ fn sees_open_behind(cursor: &Cursor<'_>) -> bool
 /// A word that is called and gives nothing, which comes next, with parentheses or without (FreeBASIC Manual, Threads,
 /// Sleep).
 #[tactic(auto, unfolding(crate::specs::Simple::called))]
+#[inline(never)]
 pub fn called(
     alloc: Global,
     cursor: &mut Cursor<'_>,
     at: Span,
     word: CallWord,
-) -> Result<Stmt, Stop>
+) -> Result<Stmt, ReadErr>
     ensures { Reads (spec.called 200 at word cursor.old) result cursor.new }
 {
     if sees_open_behind(cursor) {
@@ -221,7 +236,8 @@ pub fn called(
 
 /// `Function = e`, where Function comes next.
 #[tactic(auto, unfolding(crate::specs::Simple::result_))]
-pub fn result_(alloc: Global, cursor: &mut Cursor<'_>, at: Span) -> Result<Stmt, Stop>
+#[inline(never)]
+pub fn result_(alloc: Global, cursor: &mut Cursor<'_>, at: Span) -> Result<Stmt, ReadErr>
     ensures { Reads (spec.result_ 200 at cursor.old) result cursor.new }
 {
     cursor.take();
@@ -247,56 +263,57 @@ fn printed_value(
     cursor: &mut Cursor<'_>,
     found: &mut Items<Printed>,
     value: Expr,
-) -> Result<bool, Stop>
+) -> Result<bool, ReadErr>
     ensures { Turns (spec.printed_value found.old value cursor.old) found.new result cursor.new }
 {
     found.push(Printed::Expr(value))?;
     Ok(sees_between(cursor))
 }
 
-#[tactic(auto, unfolding(crate::specs::Simple::print_turn))]
-fn print_turn(
-    alloc: Global,
-    cursor: &mut Cursor<'_>,
-    found: &mut Items<Printed>,
-) -> Result<bool, Stop>
-    ensures { Turns (spec.print_turn 200 found.old cursor.old) found.new result cursor.new }
-{
-    if cursor.sees(Mark::Semicolon) {
-        found.push(Printed::Semicolon(place_at(cursor)))?;
-        cursor.take();
-        return Ok(true);
+struct PrintedTurns;
+
+impl Turning<Items<Printed>> for PrintedTurns {
+    ghost ready = { λ _. ⊤ };
+
+    ghost turned = { λ _. spec.print_turn 200 };
+
+    #[tactic(auto, unfolding(crate::specs::Simple::print_turn))]
+    fn turn(
+        &self,
+        alloc: Global,
+        cursor: &mut Cursor<'_>,
+        found: &mut Items<Printed>,
+    ) -> Result<bool, ReadErr> {
+        if cursor.sees(Mark::Semicolon) {
+            found.push(Printed::Semicolon(place_at(cursor)))?;
+            cursor.take();
+            return Ok(true);
+        }
+        if cursor.sees(Mark::Comma) {
+            found.push(Printed::Comma(place_at(cursor)))?;
+            cursor.take();
+            return Ok(true);
+        }
+        if sees_value(cursor) {
+            let value = whole(alloc, cursor)?;
+            return printed_value(cursor, found, value);
+        }
+        no_value(cursor)?;
+        Ok(false)
     }
-    if cursor.sees(Mark::Comma) {
-        found.push(Printed::Comma(place_at(cursor)))?;
-        cursor.take();
-        return Ok(true);
-    }
-    if sees_value(cursor) {
-        let value = whole(alloc, cursor)?;
-        return printed_value(cursor, found, value);
-    }
-    no_value(cursor)?;
-    Ok(false)
 }
 
 #[tactic(auto, unfolding(crate::specs::Simple::all_printed))]
-fn all_printed(alloc: Global, cursor: &mut Cursor<'_>) -> Result<Items<Printed>, Stop>
+fn all_printed(alloc: Global, cursor: &mut Cursor<'_>) -> Result<Items<Printed>, ReadErr>
     ensures { Reads (spec.all_printed 200 cursor.old) result cursor.new }
 {
-    let mut found = Items::new(alloc);
-    for _turn in 0..cursor.left() + 1 {
-        let more = print_turn(alloc, cursor, &mut found)?;
-        if !more {
-            return Ok(found);
-        }
-    }
-    Err(cursor.refuse())
+    all_of(alloc, cursor, &PrintedTurns, Items::new(alloc))
 }
 
 /// Print, which comes next (FreeBASIC Manual, Print).
 #[tactic(auto, unfolding(crate::specs::Simple::print))]
-pub fn print(alloc: Global, cursor: &mut Cursor<'_>, at: Span) -> Result<Stmt, Stop>
+#[inline(never)]
+pub fn print(alloc: Global, cursor: &mut Cursor<'_>, at: Span) -> Result<Stmt, ReadErr>
     ensures { Reads (spec.print 200 at cursor.old) result cursor.new }
 {
     cursor.take();
@@ -306,7 +323,8 @@ pub fn print(alloc: Global, cursor: &mut Cursor<'_>, at: Span) -> Result<Stmt, S
 
 /// `Line Input`, where Line comes next (FreeBASIC Manual, Line Input).
 #[tactic(auto, unfolding(crate::specs::Simple::line_input))]
-pub fn line_input(alloc: Global, cursor: &mut Cursor<'_>, at: Span) -> Result<Stmt, Stop>
+#[inline(never)]
+pub fn line_input(alloc: Global, cursor: &mut Cursor<'_>, at: Span) -> Result<Stmt, ReadErr>
     ensures { Reads (spec.line_input 200 at cursor.old) result cursor.new }
 {
     cursor.take();
@@ -326,7 +344,8 @@ fn exit_at(cursor: &Cursor<'_>) -> Option<End>
 
 /// Exit, which comes next (FreeBASIC Manual, Exit).
 #[tactic(auto, unfolding(crate::specs::Simple::exit))]
-pub fn exit(cursor: &mut Cursor<'_>, at: Span) -> Result<Stmt, Stop>
+#[inline(never)]
+pub fn exit(cursor: &mut Cursor<'_>, at: Span) -> Result<Stmt, ReadErr>
     ensures { Reads (spec.exit at cursor.old) result cursor.new }
 {
     cursor.take();
@@ -350,7 +369,8 @@ fn continue_at(cursor: &Cursor<'_>) -> Option<End>
 
 /// Continue, which comes next (FreeBASIC Manual, Continue).
 #[tactic(auto, unfolding(crate::specs::Simple::continue_))]
-pub fn continue_(cursor: &mut Cursor<'_>, at: Span) -> Result<Stmt, Stop>
+#[inline(never)]
+pub fn continue_(cursor: &mut Cursor<'_>, at: Span) -> Result<Stmt, ReadErr>
     ensures { Reads (spec.continue_ at cursor.old) result cursor.new }
 {
     cursor.take();
@@ -365,7 +385,8 @@ pub fn continue_(cursor: &mut Cursor<'_>, at: Span) -> Result<Stmt, Stop>
 
 /// Return, which comes next, and a value, if one follows (FreeBASIC Manual, Return).
 #[tactic(auto, unfolding(crate::specs::Simple::return_))]
-pub fn return_(alloc: Global, cursor: &mut Cursor<'_>, at: Span) -> Result<Stmt, Stop>
+#[inline(never)]
+pub fn return_(alloc: Global, cursor: &mut Cursor<'_>, at: Span) -> Result<Stmt, ReadErr>
     ensures { Reads (spec.return_ 200 at cursor.old) result cursor.new }
 {
     cursor.take();
@@ -374,7 +395,7 @@ pub fn return_(alloc: Global, cursor: &mut Cursor<'_>, at: Span) -> Result<Stmt,
 }
 
 #[tactic(auto, unfolding(crate::specs::Simple::brackets))]
-fn brackets(cursor: &mut Cursor<'_>) -> Result<bool, Stop>
+fn brackets(cursor: &mut Cursor<'_>) -> Result<bool, ReadErr>
     ensures { Reads (spec.brackets cursor.old) result cursor.new }
 {
     if cursor.sees(Mark::OpenBracket) {
@@ -387,7 +408,8 @@ fn brackets(cursor: &mut Cursor<'_>) -> Result<bool, Stop>
 
 /// Delete, which comes next (FreeBASIC Manual, Delete).
 #[tactic(auto, unfolding(crate::specs::Simple::delete))]
-pub fn delete(alloc: Global, cursor: &mut Cursor<'_>, at: Span) -> Result<Stmt, Stop>
+#[inline(never)]
+pub fn delete(alloc: Global, cursor: &mut Cursor<'_>, at: Span) -> Result<Stmt, ReadErr>
     ensures { Reads (spec.delete 200 at cursor.old) result cursor.new }
 {
     cursor.take();
@@ -398,7 +420,8 @@ pub fn delete(alloc: Global, cursor: &mut Cursor<'_>, at: Span) -> Result<Stmt, 
 
 /// End as a statement, which comes next, and a value, if one follows (FreeBASIC Manual, End (Statement)).
 #[tactic(auto, unfolding(crate::specs::Simple::end_))]
-pub fn end_(alloc: Global, cursor: &mut Cursor<'_>, at: Span) -> Result<Stmt, Stop>
+#[inline(never)]
+pub fn end_(alloc: Global, cursor: &mut Cursor<'_>, at: Span) -> Result<Stmt, ReadErr>
     ensures { Reads (spec.end_ 200 at cursor.old) result cursor.new }
 {
     cursor.take();

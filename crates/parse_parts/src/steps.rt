@@ -4,11 +4,11 @@ ghost use Rattle.parse_expr.specs.Reading.{Reads, first};
 ghost use Rattle.parse_parts.specs.Steps as spec;
 ghost use Rattle.parse_parts.specs.Steps.{Turns};
 
-use crate::kinds::{Line, is_sep};
+use crate::kinds::{InLine, is_sep};
 use fb_ast::{Expr, Name, TypeName};
 use fb_base::{FaultKind, Span};
 use fb_lexer::{Mark, TokenKind, Word};
-use parse_expr::{Cursor, Stop, begins_expr, expr_in, name, type_name};
+use parse_expr::{Cursor, ReadErr, begins_expr, expr_in, name, type_name};
 use sqlite_items::Items;
 use std::alloc::Global;
 
@@ -24,7 +24,7 @@ const OPERAND: u8 = 14;
 const ORIGIN: Span = Span { line: 1, col: 1 };
 
 /// That something else has to come next.
-pub const EXPECTED: Stop = Stop::Fault(FaultKind::Expected);
+pub const EXPECTED: ReadErr = ReadErr::Fault(FaultKind::Expected);
 
 /// The place of the next token.
 #[tactic(auto, unfolding(crate::specs::Steps::place_at))]
@@ -126,7 +126,7 @@ pub fn extra(cursor: &Cursor<'_>) -> FaultKind
 
 /// Whether the end of a statement comes next.
 #[tactic(auto, unfolding(crate::specs::Steps::sees_sep))]
-pub fn sees_sep(cursor: &Cursor<'_>, line: Line) -> bool
+pub fn sees_sep(cursor: &Cursor<'_>, line: InLine) -> bool
     ensures { result ≡ spec.sees_sep line cursor.now }
 {
     match cursor.peek() {
@@ -137,20 +137,21 @@ pub fn sees_sep(cursor: &Cursor<'_>, line: Line) -> bool
 
 /// Takes the end of a statement, which has to come next.
 #[tactic(auto, unfolding(crate::specs::Steps::sep))]
-pub fn sep(cursor: &mut Cursor<'_>, line: Line) -> Result<(), Stop>
+pub fn sep(cursor: &mut Cursor<'_>, line: InLine) -> Result<(), ReadErr>
     ensures { Reads (spec.sep line cursor.old) result cursor.new }
 {
     if sees_sep(cursor, line) {
         cursor.take();
         Ok(())
     } else {
-        Err(Stop::Fault(extra(cursor)))
+        Err(ReadErr::Fault(extra(cursor)))
     }
 }
 
 /// An expression.
 #[tactic(auto, unfolding(crate::specs::Steps::whole))]
-pub fn whole(alloc: Global, cursor: &mut Cursor<'_>) -> Result<Expr, Stop>
+#[inline(never)]
+pub fn whole(alloc: Global, cursor: &mut Cursor<'_>) -> Result<Expr, ReadErr>
     ensures { Reads (spec.whole 200 cursor.old) result cursor.new }
 {
     let (tree, _) = expr_in(alloc, cursor, MOST, WHOLE)?;
@@ -159,7 +160,7 @@ pub fn whole(alloc: Global, cursor: &mut Cursor<'_>) -> Result<Expr, Stop>
 
 /// An expression with nothing before it but `*`.
 #[tactic(auto, unfolding(crate::specs::Steps::place))]
-pub fn place(alloc: Global, cursor: &mut Cursor<'_>) -> Result<Expr, Stop>
+pub fn place(alloc: Global, cursor: &mut Cursor<'_>) -> Result<Expr, ReadErr>
     ensures { Reads (spec.place 200 cursor.old) result cursor.new }
 {
     if cursor.sees(Mark::At) {
@@ -182,18 +183,19 @@ pub fn sees_value(cursor: &Cursor<'_>) -> bool
 
 /// Passes by a token that begins no expression, where one may begin.
 #[tactic(auto, unfolding(crate::specs::Steps::no_value))]
-pub fn no_value(cursor: &Cursor<'_>) -> Result<(), Stop>
+pub fn no_value(cursor: &Cursor<'_>) -> Result<(), ReadErr>
     ensures { Reads (spec.no_value cursor.now) result cursor.now }
 {
     match cursor.refusal() {
-        FaultKind::OutOfProfile => Err(Stop::Fault(FaultKind::OutOfProfile)),
+        FaultKind::OutOfProfile => Err(ReadErr::Fault(FaultKind::OutOfProfile)),
         _ => Ok(()),
     }
 }
 
 /// An expression, if one begins.
 #[tactic(auto, unfolding(crate::specs::Steps::any_value))]
-pub fn any_value(alloc: Global, cursor: &mut Cursor<'_>) -> Result<Option<Expr>, Stop>
+#[inline(never)]
+pub fn any_value(alloc: Global, cursor: &mut Cursor<'_>) -> Result<Option<Expr>, ReadErr>
     ensures { Reads (spec.any_value 200 cursor.old) result cursor.new }
 {
     if sees_value(cursor) {
@@ -206,11 +208,12 @@ pub fn any_value(alloc: Global, cursor: &mut Cursor<'_>) -> Result<Option<Expr>,
 
 /// An expression behind this word, if it comes next.
 #[tactic(auto, unfolding(crate::specs::Steps::value_behind))]
+#[inline(never)]
 pub fn value_behind(
     alloc: Global,
     cursor: &mut Cursor<'_>,
     word: Word,
-) -> Result<Option<Expr>, Stop>
+) -> Result<Option<Expr>, ReadErr>
     ensures { Reads (spec.value_behind 200 word cursor.old) result cursor.new }
 {
     if cursor.sees_word(word) {
@@ -223,7 +226,7 @@ pub fn value_behind(
 
 /// `=` and a value, if it comes next.
 #[tactic(auto, unfolding(crate::specs::Steps::initial))]
-pub fn initial(alloc: Global, cursor: &mut Cursor<'_>) -> Result<Option<Expr>, Stop>
+pub fn initial(alloc: Global, cursor: &mut Cursor<'_>) -> Result<Option<Expr>, ReadErr>
     ensures { Reads (spec.initial 200 cursor.old) result cursor.new }
 {
     if cursor.sees(Mark::Equal) {
@@ -256,7 +259,7 @@ pub fn sees_name(cursor: &Cursor<'_>) -> bool
 
 /// A name, if it comes next.
 #[tactic(auto, unfolding(crate::specs::Steps::any_name))]
-pub fn any_name(alloc: Global, cursor: &mut Cursor<'_>) -> Result<Option<Name>, Stop>
+pub fn any_name(alloc: Global, cursor: &mut Cursor<'_>) -> Result<Option<Name>, ReadErr>
     ensures { Reads (spec.any_name cursor.old) result cursor.new }
 {
     if sees_name(cursor) {
@@ -268,7 +271,7 @@ pub fn any_name(alloc: Global, cursor: &mut Cursor<'_>) -> Result<Option<Name>, 
 
 /// As and a type, if it comes next.
 #[tactic(auto, unfolding(crate::specs::Steps::any_type))]
-pub fn any_type(alloc: Global, cursor: &mut Cursor<'_>) -> Result<Option<TypeName>, Stop>
+pub fn any_type(alloc: Global, cursor: &mut Cursor<'_>) -> Result<Option<TypeName>, ReadErr>
     ensures { Reads (spec.any_type cursor.old) result cursor.new }
 {
     if cursor.sees_word(Word::KwAs) {
@@ -277,21 +280,4 @@ pub fn any_type(alloc: Global, cursor: &mut Cursor<'_>) -> Result<Option<TypeNam
         return Ok(Some(ty));
     }
     Ok(None)
-}
-
-/// Adds what a turn gave. Whether a comma comes next, which is taken: then it goes on.
-#[tactic(auto, unfolding(crate::specs::Steps::comma_behind))]
-pub fn comma_behind<T: Drop>(
-    cursor: &mut Cursor<'_>,
-    found: &mut Items<T>,
-    one: T,
-) -> Result<bool, Stop>
-    ensures { Turns (spec.comma_behind found.old one cursor.old) found.new result cursor.new }
-{
-    found.push(one)?;
-    if cursor.sees(Mark::Comma) {
-        cursor.take();
-        return Ok(true);
-    }
-    Ok(false)
 }

@@ -1,20 +1,20 @@
 //! Dim, Static and Const.
-ghost use Rattle.std.specs.Prelude.{◌≡◌};
+ghost use Rattle.std.specs.Prelude.{◌≡◌, ⊤};
 ghost use Rattle.parse_expr.specs.Reading.{Reads};
-ghost use Rattle.parse_parts.specs.Steps.{Turns};
 ghost use Rattle.parse_parts.specs.Variables as spec;
 
 use crate::kinds::Level;
-use crate::steps::{any_type, comma_behind, initial, whole};
+use crate::steps::{any_type, initial, whole};
+use crate::turns::{Turning, all_of, comma_behind};
 use fb_ast::{Bounds, Expr, Listed, Name, Stmt, Storage, Var};
 use fb_base::Span;
 use fb_lexer::{Mark, Word};
-use parse_expr::{Cursor, Stop, name, type_name};
+use parse_expr::{Cursor, ReadErr, name, type_name};
 use sqlite_items::Items;
 use std::alloc::Global;
 
 #[tactic(auto, unfolding(crate::specs::Variables::bounds_from))]
-fn bounds_from(alloc: Global, cursor: &mut Cursor<'_>, one: Expr) -> Result<Bounds, Stop>
+fn bounds_from(alloc: Global, cursor: &mut Cursor<'_>, one: Expr) -> Result<Bounds, ReadErr>
     ensures { Reads (spec.bounds_from 200 one cursor.old) result cursor.new }
 {
     if cursor.sees_word(Word::KwTo) {
@@ -32,7 +32,7 @@ fn bounds_from(alloc: Global, cursor: &mut Cursor<'_>, one: Expr) -> Result<Boun
 }
 
 #[tactic(auto, unfolding(crate::specs::Variables::bounds))]
-fn bounds(alloc: Global, cursor: &mut Cursor<'_>) -> Result<Bounds, Stop>
+fn bounds(alloc: Global, cursor: &mut Cursor<'_>) -> Result<Bounds, ReadErr>
     ensures { Reads (spec.bounds 200 cursor.old) result cursor.new }
 {
     let one = whole(alloc, cursor)?;
@@ -43,7 +43,7 @@ fn bounds(alloc: Global, cursor: &mut Cursor<'_>) -> Result<Bounds, Stop>
 
 /// The bounds of an array in parentheses, if they come next.
 #[tactic(auto, unfolding(crate::specs::Variables::any_bounds))]
-pub fn any_bounds(alloc: Global, cursor: &mut Cursor<'_>) -> Result<Option<Bounds>, Stop>
+pub fn any_bounds(alloc: Global, cursor: &mut Cursor<'_>) -> Result<Option<Bounds>, ReadErr>
     ensures { Reads (spec.any_bounds 200 cursor.old) result cursor.new }
 {
     if cursor.sees(Mark::Open) {
@@ -61,7 +61,7 @@ fn var_behind(
     cursor: &mut Cursor<'_>,
     name: Name,
     bounds: Option<Bounds>,
-) -> Result<Var, Stop>
+) -> Result<Var, ReadErr>
     ensures { Reads (spec.var_behind 200 name bounds cursor.old) result cursor.new }
 {
     cursor.expect_word(Word::KwAs)?;
@@ -76,7 +76,7 @@ fn var_behind(
 }
 
 #[tactic(auto, unfolding(crate::specs::Variables::var))]
-fn var(alloc: Global, cursor: &mut Cursor<'_>) -> Result<Var, Stop>
+fn var(alloc: Global, cursor: &mut Cursor<'_>) -> Result<Var, ReadErr>
     ensures { Reads (spec.var 200 cursor.old) result cursor.new }
 {
     let name = name(alloc, cursor)?;
@@ -84,30 +84,34 @@ fn var(alloc: Global, cursor: &mut Cursor<'_>) -> Result<Var, Stop>
     var_behind(alloc, cursor, name, bounds)
 }
 
-#[tactic(auto, unfolding(crate::specs::Variables::var_turn))]
-fn var_turn(alloc: Global, cursor: &mut Cursor<'_>, found: &mut Items<Var>) -> Result<bool, Stop>
-    ensures { Turns (spec.var_turn 200 found.old cursor.old) found.new result cursor.new }
-{
-    let one = var(alloc, cursor)?;
-    comma_behind(cursor, found, one)
+struct VarTurns;
+
+impl Turning<Items<Var>> for VarTurns {
+    ghost ready = { λ _. ⊤ };
+
+    ghost turned = { λ _. spec.var_turn 200 };
+
+    #[tactic(auto, unfolding(crate::specs::Variables::var_turn))]
+    fn turn(
+        &self,
+        alloc: Global,
+        cursor: &mut Cursor<'_>,
+        found: &mut Items<Var>,
+    ) -> Result<bool, ReadErr> {
+        let one = var(alloc, cursor)?;
+        comma_behind(cursor, found, one)
+    }
 }
 
 #[tactic(auto, unfolding(crate::specs::Variables::vars))]
-fn vars(alloc: Global, cursor: &mut Cursor<'_>) -> Result<Items<Var>, Stop>
+fn vars(alloc: Global, cursor: &mut Cursor<'_>) -> Result<Items<Var>, ReadErr>
     ensures { Reads (spec.vars 200 cursor.old) result cursor.new }
 {
-    let mut found = Items::new(alloc);
-    for _turn in 0..cursor.left() + 1 {
-        let more = var_turn(alloc, cursor, &mut found)?;
-        if !more {
-            return Ok(found);
-        }
-    }
-    Err(cursor.refuse())
+    all_of(alloc, cursor, &VarTurns, Items::new(alloc))
 }
 
 #[tactic(auto, unfolding(crate::specs::Variables::listed))]
-fn listed(alloc: Global, cursor: &mut Cursor<'_>) -> Result<Listed, Stop>
+fn listed(alloc: Global, cursor: &mut Cursor<'_>) -> Result<Listed, ReadErr>
     ensures { Reads (spec.listed 200 cursor.old) result cursor.new }
 {
     let name = name(alloc, cursor)?;
@@ -116,35 +120,40 @@ fn listed(alloc: Global, cursor: &mut Cursor<'_>) -> Result<Listed, Stop>
     Ok(Listed { name, bounds, init })
 }
 
-#[tactic(auto, unfolding(crate::specs::Variables::listed_turn))]
-fn listed_turn(
-    alloc: Global,
-    cursor: &mut Cursor<'_>,
-    found: &mut Items<Listed>,
-) -> Result<bool, Stop>
-    ensures { Turns (spec.listed_turn 200 found.old cursor.old) found.new result cursor.new }
-{
-    let one = listed(alloc, cursor)?;
-    comma_behind(cursor, found, one)
+struct ListedTurns;
+
+impl Turning<Items<Listed>> for ListedTurns {
+    ghost ready = { λ _. ⊤ };
+
+    ghost turned = { λ _. spec.listed_turn 200 };
+
+    #[tactic(auto, unfolding(crate::specs::Variables::listed_turn))]
+    fn turn(
+        &self,
+        alloc: Global,
+        cursor: &mut Cursor<'_>,
+        found: &mut Items<Listed>,
+    ) -> Result<bool, ReadErr> {
+        let one = listed(alloc, cursor)?;
+        comma_behind(cursor, found, one)
+    }
 }
 
 #[tactic(auto, unfolding(crate::specs::Variables::all_listed))]
-fn all_listed(alloc: Global, cursor: &mut Cursor<'_>) -> Result<Items<Listed>, Stop>
+fn all_listed(alloc: Global, cursor: &mut Cursor<'_>) -> Result<Items<Listed>, ReadErr>
     ensures { Reads (spec.all_listed 200 cursor.old) result cursor.new }
 {
-    let mut found = Items::new(alloc);
-    for _turn in 0..cursor.left() + 1 {
-        let more = listed_turn(alloc, cursor, &mut found)?;
-        if !more {
-            return Ok(found);
-        }
-    }
-    Err(cursor.refuse())
+    all_of(alloc, cursor, &ListedTurns, Items::new(alloc))
 }
 
 // Behind As.
 #[tactic(auto, unfolding(crate::specs::Variables::dim_as))]
-fn dim_as(alloc: Global, cursor: &mut Cursor<'_>, at: Span, storage: Storage) -> Result<Stmt, Stop>
+fn dim_as(
+    alloc: Global,
+    cursor: &mut Cursor<'_>,
+    at: Span,
+    storage: Storage,
+) -> Result<Stmt, ReadErr>
     ensures { Reads (spec.dim_as 200 at storage cursor.old) result cursor.new }
 {
     let ty = type_name(alloc, cursor)?;
@@ -158,7 +167,7 @@ fn dim_vars(
     cursor: &mut Cursor<'_>,
     at: Span,
     storage: Storage,
-) -> Result<Stmt, Stop>
+) -> Result<Stmt, ReadErr>
     ensures { Reads (spec.dim_vars 200 at storage cursor.old) result cursor.new }
 {
     let all = vars(alloc, cursor)?;
@@ -172,7 +181,7 @@ fn dim_behind(
     cursor: &mut Cursor<'_>,
     at: Span,
     storage: Storage,
-) -> Result<Stmt, Stop>
+) -> Result<Stmt, ReadErr>
     ensures { Reads (spec.dim_behind 200 at storage cursor.old) result cursor.new }
 {
     if cursor.sees_word(Word::KwAs) {
@@ -191,7 +200,7 @@ fn may_share(level: Level) -> bool
     }
 }
 
-fn dim_by(alloc: Global, cursor: &mut Cursor<'_>, shares: bool, at: Span) -> Result<Stmt, Stop>
+fn dim_by(alloc: Global, cursor: &mut Cursor<'_>, shares: bool, at: Span) -> Result<Stmt, ReadErr>
     ensures { Reads (spec.dim_by 200 shares at cursor.old) result cursor.new }
 {
     if !shares {
@@ -206,7 +215,8 @@ fn dim_by(alloc: Global, cursor: &mut Cursor<'_>, shares: bool, at: Span) -> Res
 
 /// Dim, which comes next (FreeBASIC Manual, Dim). Shared may stand behind it at the module's level alone.
 #[tactic(auto, unfolding(crate::specs::Variables::dim))]
-pub fn dim(alloc: Global, cursor: &mut Cursor<'_>, at: Span, level: Level) -> Result<Stmt, Stop>
+#[inline(never)]
+pub fn dim(alloc: Global, cursor: &mut Cursor<'_>, at: Span, level: Level) -> Result<Stmt, ReadErr>
     ensures { Reads (spec.dim 200 at level cursor.old) result cursor.new }
 {
     cursor.take();
@@ -215,7 +225,8 @@ pub fn dim(alloc: Global, cursor: &mut Cursor<'_>, at: Span, level: Level) -> Re
 
 /// Static, which comes next (FreeBASIC Manual, Static).
 #[tactic(auto, unfolding(crate::specs::Variables::static_))]
-pub fn static_(alloc: Global, cursor: &mut Cursor<'_>, at: Span) -> Result<Stmt, Stop>
+#[inline(never)]
+pub fn static_(alloc: Global, cursor: &mut Cursor<'_>, at: Span) -> Result<Stmt, ReadErr>
     ensures { Reads (spec.static_ 200 at cursor.old) result cursor.new }
 {
     cursor.take();
@@ -224,7 +235,8 @@ pub fn static_(alloc: Global, cursor: &mut Cursor<'_>, at: Span) -> Result<Stmt,
 
 /// Const, which comes next (FreeBASIC Manual, Const).
 #[tactic(auto, unfolding(crate::specs::Variables::constant))]
-pub fn constant(alloc: Global, cursor: &mut Cursor<'_>, at: Span) -> Result<Stmt, Stop>
+#[inline(never)]
+pub fn constant(alloc: Global, cursor: &mut Cursor<'_>, at: Span) -> Result<Stmt, ReadErr>
     ensures { Reads (spec.constant 200 at cursor.old) result cursor.new }
 {
     cursor.take();

@@ -9,8 +9,8 @@ use Rattle.fb_lexer.specs.declared.token.Mark.{Mark}
 use Rattle.fb_lexer.specs.declared.token.Mark.TheVariants.{Comma}
 use Rattle.fb_lexer.specs.declared.word.Word.{Word}
 use Rattle.fb_base.specs.declared.fault.FaultKind.{FaultKind}
-use Rattle.parse_expr.specs.declared.stop.Stop.{Stop}
-use Rattle.parse_expr.specs.declared.stop.Stop.TheVariants as stops
+use Rattle.parse_expr.specs.declared.error.ReadErr.{ReadErr}
+use Rattle.parse_expr.specs.declared.error.ReadErr.TheVariants as read_errs
 use Rattle.parse_expr.specs.Words.{is_refused}
 use Rattle.parse_expr.specs.Reading.{first, next, is_mark, is_word, holds, sees, sees_word, expect, expect_word, Outcome, Reader, and_then, pure}
 use Rattle.parse_expr.specs.Expr.{place_or}
@@ -18,8 +18,8 @@ use Rattle.parse_expr.proofs.Sound.{Done, bind, by_test}
 use Rattle.parse_expr.proofs.Ends.{Suffixes, same_end, no_longer, Leaves}
 use Rattle.parse_expr.proofs.Turned.{same_bind}
 use Rattle.parse_expr.proofs.FirstFault.{meet}
-use Rattle.parse_expr.proofs.Twins.{Place, Alike, here, there, Gone, Near, ErrAt, Twin, twin_pure, twin_then, twin_test, twin_if, twin_take, twin_next, twin_refuse, gone_then, eaten}
-use Rattle.parse_parts.specs.declared.kinds.Line.{Line}
+use Rattle.parse_expr.proofs.Twins.{Position, Alike, here, there, Gone, Near, ErrAt, Twin, twin_pure, twin_then, twin_test, twin_if, twin_take, twin_next, twin_refuse, gone_then, eaten}
+use Rattle.parse_parts.specs.declared.kinds.InLine.{InLine}
 use Rattle.parse_parts.specs.Words.{is_sep}
 use Rattle.parse_parts.specs.Simple.{goes_on}
 use Rattle.parse_stmt.proofs.Odd.{is_odd_word, by_odd, odd_mark, odd_word, odd_sep, by_refused, refused_mark, refused_word, refused_sep, Ends, Refused, Ended, Odd, Stand, place_in, other_mark, other_word}
@@ -75,7 +75,7 @@ repeat_done {S = S} turn P k (suc n) found ts =
 -- ---- what is taken in both readings
 
 module _ (L : FaultKind → Type 0) (t : Token) (s v : List Token) (stand : Stand L t v) where
-  abbrev pub at_place : Place L t v
+  abbrev pub at_place : Position L t v
   at_place = place_in L t v stand
 
   abbrev pub Both : List Token → List Token → Type 0
@@ -148,7 +148,7 @@ module _ (L : FaultKind → Type 0) (t : Token) (s v : List Token) (stand : Stan
     gone = gone_then L t s v at_place (p (t ∷ s)) f h.gone (λ a rest. (k a).leaves rest);
   }
 
-  pub stopped : {A : Type 0} (one other : List Token → Stop) → T {A = A} (λ ts. Err (one ts, ts)) (λ ts. Err (other ts, ts))
+  pub stopped : {A : Type 0} (one other : List Token → ReadErr) → T {A = A} (λ ts. Err (one ts, ts)) (λ ts. Err (other ts, ts))
   stopped one other = record { leaves = λ ts. same_end ts; near = λ ts us al. inr (other us, us, refl, al) }
 
   -- a look at the next token
@@ -212,38 +212,38 @@ module _ (L : FaultKind → Type 0) (t : Token) (s v : List Token) (stand : Stan
   sep_gone true p q g h = g
   sep_gone false p q g h = h
 
-  sep_near : {A : Type 0} (line : Line) {p q p' q' : Reader A} → Eats p p' → T q q' → (Ends L → Gone L t s v at_place (q (t ∷ s))) → (u : Token) → Refused L t u ⊎ Ended L u
+  sep_near : {A : Type 0} (line : InLine) {p q p' q' : Reader A} → Eats p p' → T q q' → (Ends L → Gone L t s v at_place (q (t ∷ s))) → (u : Token) → Refused L t u ⊎ Ended L u
       → Near L t s v at_place (if is_sep line t.kind then p (t ∷ s) else q (t ∷ s)) (if is_sep line u.kind then p' v else q' v)
   sep_near line g h gone u (inl r) = rw (refused_sep line t.kind r.word, odd_sep line u.kind r.odd) (h.near (t ∷ s) v here)
   sep_near line {p = p} {q = q} g h gone u (inr e) = inl (sep_gone (is_sep line t.kind) p q g.gone (gone e.ends))
 
   -- an end of a statement, or what is told where one would do
-  pub twin_at_sep : {A : Type 0} (line : Line) {p q p' q' : Reader A} → Eats p p' → T q q' → (Ends L → Gone L t s v at_place (q (t ∷ s))) → T (λ ts. if sees_sep line ts then p ts else q ts) (λ ts. if sees_sep line ts then p' ts else q' ts)
+  pub twin_at_sep : {A : Type 0} (line : InLine) {p q p' q' : Reader A} → Eats p p' → T q q' → (Ends L → Gone L t s v at_place (q (t ∷ s))) → T (λ ts. if sees_sep line ts then p ts else q ts) (λ ts. if sees_sep line ts then p' ts else q' ts)
   unfolding sees_sep
   twin_at_sep line {p = p} {q = q} {p' = p'} {q' = q'} g h gone =
       seen (λ o ts. if holds (is_sep line) o then p ts else q ts) (λ o ts. if holds (is_sep line) o then p' ts else q' ts) (λ o. twin_test L t s v at_place (holds (is_sep line) o) p q p' q' g.twin h)
       (λ odd. sep_near line g h gone odd.u odd.why)
 
-  pub extra_gone : (A : Type 0) → Ends L → Gone L t s v at_place {A = A} (Err (stops.Fault (extra (t ∷ s)), t ∷ s))
+  pub extra_gone : (A : Type 0) → Ends L → Gone L t s v at_place {A = A} (Err (read_errs.Fault (extra (t ∷ s)), t ∷ s))
   unfolding extra first
   extra_gone A ends = inr ends.extra
 
   pub twin_expect : (which : Mark) → T (expect which) (expect which)
   unfolding expect
-  twin_expect which = twin_mark which (took tt) (stopped (λ ts. stops.Fault Expected) (λ ts. stops.Fault Expected))
+  twin_expect which = twin_mark which (took tt) (stopped (λ ts. read_errs.Fault Expected) (λ ts. read_errs.Fault Expected))
 
   pub twin_expect_word : (which : Word) → is_odd_word which ≡ false → T (expect_word which) (expect_word which)
   unfolding expect_word
-  twin_expect_word which plain = twin_word which plain (took tt) (stopped (λ ts. stops.Fault Expected) (λ ts. stops.Fault Expected))
+  twin_expect_word which plain = twin_word which plain (took tt) (stopped (λ ts. read_errs.Fault Expected) (λ ts. read_errs.Fault Expected))
 
-  pub twin_sep : (line : Line) → T (sep line) (sep line)
+  pub twin_sep : (line : InLine) → T (sep line) (sep line)
   unfolding sep
-  twin_sep line = twin_at_sep line (took tt) (stopped (λ ts. stops.Fault (extra ts)) (λ ts. stops.Fault (extra ts))) (extra_gone (Unit {0}))
+  twin_sep line = twin_at_sep line (took tt) (stopped (λ ts. read_errs.Fault (extra ts)) (λ ts. read_errs.Fault (extra ts))) (extra_gone (Unit {0}))
 
   -- an end comes next, or that is what is told
-  pub ended_gone : (line : Line) → Ends L → Gone L t s v at_place (sep line (t ∷ s))
+  pub ended_gone : (line : InLine) → Ends L → Gone L t s v at_place (sep line (t ∷ s))
   unfolding sep sees_sep first next
-  ended_gone line ends = sep_gone (is_sep line t.kind) (λ ts. Ok (tt, next ts)) (λ ts. Err (stops.Fault (extra ts), ts)) (omega arith) (extra_gone (Unit {0}) ends)
+  ended_gone line ends = sep_gone (is_sep line t.kind) (λ ts. Ok (tt, next ts)) (λ ts. Err (read_errs.Fault (extra ts), ts)) (omega arith) (extra_gone (Unit {0}) ends)
 
   -- ---- the place of the next token
 
@@ -267,9 +267,9 @@ module _ (L : FaultKind → Type 0) (t : Token) (s v : List Token) (stand : Stan
   pub err_then : {A B : Type 0} (o : Outcome A) (f : A → Reader B) → ErrAt o v → ErrAt (and_then o f) v
   err_then {A = A} o f e = record { stop = e.stop; is = ap (λ (x : Outcome A). and_then x f) e.is }
 
-  halts_if : (b : Bool) → Gone L t s v at_place {A = Unit {0}} (if b then Ok (tt, s) else Err (stops.Fault Expected, t ∷ s)) ⊎ ErrAt {A = Unit {0}} (if b then Ok (tt, s) else Err (stops.Fault Expected, t ∷ s)) (t ∷ s)
+  halts_if : (b : Bool) → Gone L t s v at_place {A = Unit {0}} (if b then Ok (tt, s) else Err (read_errs.Fault Expected, t ∷ s)) ⊎ ErrAt {A = Unit {0}} (if b then Ok (tt, s) else Err (read_errs.Fault Expected, t ∷ s)) (t ∷ s)
   halts_if true = inl (omega arith)
-  halts_if false = inr (record { stop = stops.Fault Expected; is = refl })
+  halts_if false = inr (record { stop = read_errs.Fault Expected; is = refl })
 
   pub expect_halts : (which : Word) → Gone L t s v at_place (expect_word which (t ∷ s)) ⊎ ErrAt (expect_word which (t ∷ s)) (t ∷ s)
   unfolding expect_word sees_word first next
@@ -277,7 +277,7 @@ module _ (L : FaultKind → Type 0) (t : Token) (s v : List Token) (stand : Stan
 
   pub expect_fails : (which : Word) → is_odd_word which ≡ false → Odd L t v → ErrAt (expect_word which v) v
   unfolding expect_word sees_word
-  expect_fails which plain odd = rw (odd.is, other_word which plain odd) (record { stop = stops.Fault Expected; is = refl })
+  expect_fails which plain odd = rw (odd.is, other_word which plain odd) (record { stop = read_errs.Fault Expected; is = refl })
 
   -- this word has to come next, and neither token is it
   pub expect_near : {A : Type 0} (which : Word) → is_odd_word which ≡ false → (f g : Unit {0} → Reader A) → ((u : Unit {0}) (rest : List Token) → Leaves rest (f u rest)) → Odd L t v
@@ -289,7 +289,7 @@ module _ (L : FaultKind → Type 0) (t : Token) (s v : List Token) (stand : Stan
   pub record SameNext (ts us : List Token) : Type 0 where
     pub mark : (which : Mark) → holds (is_mark which) (first us) ≡ holds (is_mark which) (first ts)
     pub word : (which : Word) → is_odd_word which ≡ false → is_refused which ≡ false → holds (is_word which) (first us) ≡ holds (is_word which) (first ts)
-    pub sep : (line : Line) → sees_sep line us ≡ sees_sep line ts
+    pub sep : (line : InLine) → sees_sep line us ≡ sees_sep line ts
     pub goes_on : holds goes_on (first us) ≡ holds goes_on (first ts)
 
   -- the place is reached, and an end stands there in the second list
@@ -326,7 +326,7 @@ module _ (L : FaultKind → Type 0) (t : Token) (s v : List Token) (stand : Stan
   pub next_same : (ts us : List Token) → Both ts us → SameNext ts us ⊎ Over ts us
   next_same ts us al = next_by stand ts us al
 
-  -- ---- rows of things
+  -- ---- series of things
 
   pub twin_comma : {A : Type 0} (found : List A) (x : A) → T (comma_behind found x) (comma_behind found x)
   unfolding comma_behind

@@ -17,7 +17,7 @@ use Rattle.parse_expr.specs.declared.kinds.OperandWord.{OperandWord}
 use Rattle.parse_expr.specs.declared.kinds.OperandWord.TheVariants as operands
 use Rattle.parse_expr.specs.Words.{operand_word, prefix_of}
 use Rattle.parse_expr.specs.Reading.{first, next, same_mark, same_word, is_mark, is_word, holds, sees_word, refusal_by, Outcome, Reader, and_then, pure}
-use Rattle.parse_expr.specs.Rows.{begins_some, begins_operand, word_start}
+use Rattle.parse_expr.specs.Productions.{begins_some, begins_operand, word_start}
 use Rattle.parse_expr.specs.Expr.{place_or, begins, begins_as}
 use Rattle.parse_expr.specs.Faults.{is_refused_kind}
 use Rattle.parse_expr.proofs.Sound.{Done, bind, by_test, map_done}
@@ -26,8 +26,8 @@ use Rattle.parse_expr.proofs.Refused.{nowhere}
 use Rattle.parse_expr.proofs.Twins.{Rooms, here, there, Gone, Near, twin_test, gone_then, past}
 use Rattle.parse_parts.specs.declared.kinds.Level.{Level}
 use Rattle.parse_parts.specs.declared.kinds.Level.TheVariants as levels
-use Rattle.parse_parts.specs.declared.kinds.Line.{Line}
-use Rattle.parse_parts.specs.declared.kinds.Line.TheVariants as lines
+use Rattle.parse_parts.specs.declared.kinds.InLine.{InLine}
+use Rattle.parse_parts.specs.declared.kinds.InLine.TheVariants as lines
 use Rattle.parse_parts.specs.declared.kinds.Spot.{Spot}
 use Rattle.parse_parts.specs.declared.kinds.Lead.{Lead}
 use Rattle.parse_parts.specs.declared.kinds.Lead.TheVariants as leads
@@ -35,7 +35,7 @@ use Rattle.parse_parts.specs.declared.kinds.Closer.{Closer}
 use Rattle.parse_parts.specs.declared.kinds.Closer.TheVariants as closers
 use Rattle.parse_parts.specs.Words.{lead_of, word_lead, mark_lead, operand_lead, allowed, static_at, gives_nothing, ends_with_end, is_sep}
 use Rattle.parse_parts.specs.Steps.{place_at, origin, sees_sep, sep, sees_value, Turn, repeat, all_of}
-use Rattle.parse_stmt.specs.Blocks.{sees_end, closed, deep_end, end_is_deep, block_stmt, ended, block_turn, row_turn}
+use Rattle.parse_stmt.specs.Blocks.{sees_end, closed, deep_end, end_is_deep, block_stmt, ended, block_turn, series_turn}
 use Rattle.parse_stmt.specs.Phrases.{Phrase}
 use Rattle.parse_stmt.proofs.Smallest.{word_is}
 use Rattle.parse_stmt.proofs.Bodies.{sep_less}
@@ -190,13 +190,13 @@ module _ (L : FaultKind → Type 0) (t : Token) (s v : List Token) (stand : Stan
       stays_seen C (λ o ts. if holds (is_word which) o then p ts else q ts) (λ o ts. if holds (is_word which) o then p' ts else q' ts) (λ o. stays_if C (holds (is_word which) o) p q p' q' (weak C g.twin) h)
       (λ odd. odd_stays C (is_word which t.kind) (is_word which odd.u.kind) p q p' q' (other_word which plain odd) g.gone h)
 
-  sep_stays : {A : Type 0} (C : A → List Token → Type 0) (line : Line) (p q p' q' : Reader A) → Gone L t s v (at_place L t s v stand) (p (t ∷ s)) → E C q q' → (Ends L → GoneOrStays C (q (t ∷ s))) → (u : Token) → Refused L t u ⊎ EndThere L u
+  sep_stays : {A : Type 0} (C : A → List Token → Type 0) (line : InLine) (p q p' q' : Reader A) → Gone L t s v (at_place L t s v stand) (p (t ∷ s)) → E C q q' → (Ends L → GoneOrStays C (q (t ∷ s))) → (u : Token) → Refused L t u ⊎ EndThere L u
       → NearOrStays C (if is_sep line t.kind then p (t ∷ s) else q (t ∷ s)) (if is_sep line u.kind then p' v else q' v)
   sep_stays C line p q p' q' gone h k u (inl r) = rw (refused_sep line t.kind r.word, odd_sep line u.kind r.odd) (h.near (t ∷ s) v here)
   sep_stays C line p q p' q' gone h k u (inr e) = lift C (if is_sep line t.kind then p (t ∷ s) else q (t ∷ s)) (if is_sep line u.kind then p' v else q' v) (word_by C (is_sep line t.kind) (p (t ∷ s)) (q (t ∷ s)) gone (λ is. k e.ends))
 
   -- an end of a statement, or what is told or read where one would do
-  pub stays_at_sep : {A : Type 0} (C : A → List Token → Type 0) (line : Line) {p q p' q' : Reader A} → E C p p' → Gone L t s v (at_place L t s v stand) (p (t ∷ s)) → E C q q' → (Ends L → GoneOrStays C (q (t ∷ s))) → E C (λ ts. if sees_sep line ts then p ts else q ts) (λ ts. if sees_sep line ts then p' ts else q' ts)
+  pub stays_at_sep : {A : Type 0} (C : A → List Token → Type 0) (line : InLine) {p q p' q' : Reader A} → E C p p' → Gone L t s v (at_place L t s v stand) (p (t ∷ s)) → E C q q' → (Ends L → GoneOrStays C (q (t ∷ s))) → E C (λ ts. if sees_sep line ts then p ts else q ts) (λ ts. if sees_sep line ts then p' ts else q' ts)
   unfolding sees_sep
   stays_at_sep C line {p = p} {q = q} {p' = p'} {q' = q'} g gone h k =
       stays_seen C (λ o ts. if holds (is_sep line) o then p ts else q ts) (λ o ts. if holds (is_sep line) o then p' ts else q' ts) (λ o. stays_if C (holds (is_sep line) o) p q p' q' g h)
@@ -469,11 +469,11 @@ pub value_too : (us ts : List Token) → first us ≡ first ts → sees_value us
 unfolding sees_value
 value_too us ts is = ap (begins 1) is
 
-pub sep_too : (line : Line) (us ts : List Token) → first us ≡ first ts → sees_sep line us ≡ sees_sep line ts
+pub sep_too : (line : InLine) (us ts : List Token) → first us ≡ first ts → sees_sep line us ≡ sees_sep line ts
 unfolding sees_sep
 sep_too line us ts is = ap (holds (is_sep line)) is
 
-pub end_no_sep : (line : Line) (kind : TokenKind) → is_word w.KwEnd kind ≡ true → is_sep line kind ≡ false
+pub end_no_sep : (line : InLine) (kind : TokenKind) → is_word w.KwEnd kind ≡ true → is_sep line kind ≡ false
 end_no_sep line kind is = ap (is_sep line) (word_is w.KwEnd kind is)
 
 -- ---- what a word begins that is called
@@ -596,7 +596,7 @@ value_begins level x is = begun_by level x x.kind refl is
 abbrev pub Less : {S : Type 0} → List Token → S × Bool → List Token → Type 0
 Less ts q rest = q.1 ≡ true → length rest < length ts
 
-pub shortens_block : (most : ℕ) (inner : Spot → Reader Stmt) (room : ℕ) → ((spot : Spot) (ts : List Token) → Done (λ (x : Stmt) rest. Suffixes rest ts) (inner spot ts)) → (level : Level) (line : Line) (closer : Closer)
+pub shortens_block : (most : ℕ) (inner : Spot → Reader Stmt) (room : ℕ) → ((spot : Spot) (ts : List Token) → Done (λ (x : Stmt) rest. Suffixes rest ts) (inner spot ts)) → (level : Level) (line : InLine) (closer : Closer)
     → Shortens (block_turn most inner room level line closer)
 unfolding block_turn block_stmt ended sep deep_end
 shortens_block most inner room leaves level line closer = record {
@@ -609,13 +609,13 @@ shortens_block most inner room leaves level line closer = record {
       (λ is more. let n = no_longer l in let m = sep_less line rest is in omega arith) (λ is. tt))));
 }
 
-pub shortens_row : (most : ℕ) (inner : Spot → Reader Stmt) (room : ℕ) → ((spot : Spot) (ts : List Token) → Done (λ (x : Stmt) rest. Suffixes rest ts) (inner spot ts)) → (level : Level) → Shortens (row_turn most inner room level)
-unfolding row_turn
-shortens_row most inner room leaves level = record {
+pub shortens_series : (most : ℕ) (inner : Spot → Reader Stmt) (room : ℕ) → ((spot : Spot) (ts : List Token) → Done (λ (x : Stmt) rest. Suffixes rest ts) (inner spot ts)) → (level : Level) → Shortens (series_turn most inner room level)
+unfolding series_turn
+shortens_series most inner room leaves level = record {
   less = λ found ts.
-      by_test (λ (o : Outcome (List Stmt × Bool)). Done (Less ts) o) (sees_sep lines.Row ts) _ _
-      (λ is. bind (λ (x : Stmt) rest. Suffixes rest (next ts)) (Less ts) (inner (record { level = level; line = lines.Row; other = Expected }) (next ts)) _ (leaves (record { level = level; line = lines.Row; other = Expected }) (next ts))
-      (λ x rest l more. let n = no_longer l in let m = sep_less lines.Row ts is in omega arith))
+      by_test (λ (o : Outcome (List Stmt × Bool)). Done (Less ts) o) (sees_sep lines.Series ts) _ _
+      (λ is. bind (λ (x : Stmt) rest. Suffixes rest (next ts)) (Less ts) (inner (record { level = level; line = lines.Series; other = Expected }) (next ts)) _ (leaves (record { level = level; line = lines.Series; other = Expected }) (next ts))
+      (λ x rest l more. let n = no_longer l in let m = sep_less lines.Series ts is in omega arith))
       (λ is more. cc);
 }
 

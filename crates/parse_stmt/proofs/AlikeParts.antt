@@ -23,18 +23,18 @@ use Rattle.fb_ast.specs.declared.stmt.Storage.TheVariants as storage
 use Rattle.parse_expr.specs.declared.kinds.OperandWord.TheVariants as operands
 use Rattle.parse_expr.specs.declared.kinds.Suffix.{Suffix}
 use Rattle.parse_expr.specs.declared.kinds.Suffix.TheVariants as suffixes
-use Rattle.parse_expr.specs.declared.stop.Stop.TheVariants as stops
+use Rattle.parse_expr.specs.declared.error.ReadErr.TheVariants as read_errs
 use Rattle.parse_expr.specs.Words.{operand_word, prefix_of, suffix_of}
 use Rattle.parse_expr.specs.Reading.{first, next, is_mark, holds, sees, refusal, refusal_by, refusal_at, Outcome, Reader, and_then, pure, stop, take_token}
 use Rattle.parse_expr.specs.Types.{type_name, name, name_by}
-use Rattle.parse_expr.specs.Rows.{gives as gives_row, arguments as arguments_row, call_word_row, Leaf, start_of, word_start}
+use Rattle.parse_expr.specs.Productions.{gives as gives_series, arguments as arguments_production, call_word_production, Leaf, start_of, word_start}
 use Rattle.parse_expr.specs.Expr.{Measured, expr, begins}
 use Rattle.parse_expr.specs.Grammar.{Is, Expression, primary as a_primary, nothing as nothing_behind, a_mark, no_arguments}
 use Rattle.parse_expr.proofs.Sound.{Done, map_done}
 use Rattle.parse_expr.proofs.Ends.{Suffixes, same_end, Leaves}
 use Rattle.parse_expr.proofs.Refused.{nowhere}
 use Rattle.parse_expr.proofs.Firsts.{none_alike}
-use Rattle.parse_expr.proofs.Rowed.{mark_token}
+use Rattle.parse_expr.proofs.Completed.{mark_token}
 use Rattle.parse_expr.proofs.Twins.{Rooms, here, there, Loose, Gone, Near, ErrAt, twins, twin_name, twin_type, twin_test, gone_then, gone_if, past, eaten, not_begun, begun_gone, suffix_gone, open_gone, leaf_gone}
 use Rattle.parse_parts.specs.Steps.{whole, place, pass_by, no_value, sees_value, any_value, value_behind, initial, is_name, sees_name, any_name, any_type, comma_behind}
 use Rattle.parse_parts.specs.Variables.{bounds_from, bounds, any_bounds, var_behind, var, var_turn, vars, listed, listed_turn, all_listed, dim_as, dim_vars, dim_behind, may_share, dim_by, dim, static_, constant}
@@ -127,11 +127,11 @@ module _ (L : FaultKind → Type 0) (t : Token) (s v : List Token) (stand : Stan
   no_expr : (u : Token) → first v ≡ Some u → Ended L u → ErrAt (and_then (expr (suc deeper) 14 v) (λ x ts. Ok (x.0, ts))) v
   no_expr u is e = err_then L t s v stand (expr (suc deeper) 14 v) (λ x ts. Ok (x.0, ts)) (not_begun L t s v (at_place L t s v stand) deeper 14 v (ap (begins 14) is ∙ (end_empty u e.end).no_begin 14))
 
-  no_minus : (u : Token) → first v ≡ Some u → Ended L u → ErrAt (if sees Minus v then Err (stops.Fault Expected, v) else and_then (expr (suc deeper) 14 v) (λ x ts. Ok (x.0, ts))) v
+  no_minus : (u : Token) → first v ≡ Some u → Ended L u → ErrAt (if sees Minus v then Err (read_errs.Fault Expected, v) else and_then (expr (suc deeper) 14 v) (λ x ts. Ok (x.0, ts))) v
   unfolding sees
   no_minus u is e = rw (is, by_end (is_mark Minus) false refl refl u.kind e.end) (no_expr u is e)
 
-  both_stop : {A : Type 0} (other : Outcome A) → ErrAt other v → Near L t s v (at_place L t s v stand) (Err (stops.Fault Expected, t ∷ s)) other
+  both_stop : {A : Type 0} (other : Outcome A) → ErrAt other v → Near L t s v (at_place L t s v stand) (Err (read_errs.Fault Expected, t ∷ s)) other
   both_stop other e = inr (e.stop, v, e.is, here)
 
   mark_alone : {A : Type 0} (which : Mark) {p q p' q' : Reader A} → (Odd L t v → is_mark which t.kind ≡ true → Near L t s v (at_place L t s v stand) (p (t ∷ s)) (q' v)) → T L t s v stand p p' → T L t s v stand q q'
@@ -141,12 +141,12 @@ module _ (L : FaultKind → Type 0) (t : Token) (s v : List Token) (stand : Stan
 
   pub twin_place : T L t s v stand (place (suc deep)) (place (suc deeper))
   unfolding place
-  twin_place = mark_alone At (λ odd is. both_stop _ (no_minus odd.u odd.is (ended_by At is odd.u odd.why))) (stopped L t s v stand (λ ts. stops.Fault Expected) (λ ts. stops.Fault Expected))
-      (mark_alone Minus (λ odd is. both_stop _ (no_expr odd.u odd.is (ended_by Minus is odd.u odd.why))) (stopped L t s v stand (λ ts. stops.Fault Expected) (λ ts. stops.Fault Expected))
+  twin_place = mark_alone At (λ odd is. both_stop _ (no_minus odd.u odd.is (ended_by At is odd.u odd.why))) (stopped L t s v stand (λ ts. read_errs.Fault Expected) (λ ts. read_errs.Fault Expected))
+      (mark_alone Minus (λ odd is. both_stop _ (no_expr odd.u odd.is (ended_by Minus is odd.u odd.why))) (stopped L t s v stand (λ ts. read_errs.Fault Expected) (λ ts. read_errs.Fault Expected))
       (followed L t s v stand (twins L t s v (at_place L t s v stand) (suc deep) (suc deeper) rooms 14) (λ x. given L t s v stand x.0)))
 
   twin_pass_by : (kind : FaultKind) → T L t s v stand (pass_by kind) (pass_by kind)
-  twin_pass_by OutOfProfile = stopped L t s v stand (λ ts. stops.Fault OutOfProfile) (λ ts. stops.Fault OutOfProfile)
+  twin_pass_by OutOfProfile = stopped L t s v stand (λ ts. read_errs.Fault OutOfProfile) (λ ts. read_errs.Fault OutOfProfile)
   twin_pass_by kind = given L t s v stand tt
 
   pass_ended : Ends L → (kind : FaultKind) → Near L t s v (at_place L t s v stand) (pass_by kind (t ∷ s)) (Ok (tt, v))
@@ -312,7 +312,7 @@ module _ (L : FaultKind → Type 0) (t : Token) (s v : List Token) (stand : Stan
   twin_headed_by : (b : Bool) (at : Span) (x : Expr) → T L t s v stand (if b then may_assign (suc deep) at x else must_assign (suc deep) at x) (if b then may_assign (suc deeper) at x else must_assign (suc deeper) at x)
   unfolding may_assign must_assign
   twin_headed_by true at x = twin_assigned at x (pure (k.Call at x)) (pure (k.Call at x)) (given L t s v stand (k.Call at x))
-  twin_headed_by false at x = twin_assigned at x (stop Expected) (stop Expected) (stopped L t s v stand (λ ts. stops.Fault Expected) (λ ts. stops.Fault Expected))
+  twin_headed_by false at x = twin_assigned at x (stop Expected) (stop Expected) (stopped L t s v stand (λ ts. read_errs.Fault Expected) (λ ts. read_errs.Fault Expected))
 
   twin_headed : (at : Span) (x : Expr) → T L t s v stand (headed (suc deep) at x) (headed (suc deeper) at x)
   unfolding headed
@@ -321,8 +321,8 @@ module _ (L : FaultKind → Type 0) (t : Token) (s v : List Token) (stand : Stan
   -- ---- a token that an expression begins with is taken
 
   loose_too : (us : List Token) (its : first us ≡ Some t) (stop : _) → Loose L t s us (at_place L t s us (inl its)) stop → Loose L t s v (at_place L t s v stand) stop
-  loose_too us its stops.NoMemory l = l
-  loose_too us its (stops.Fault kind) l = l
+  loose_too us its read_errs.NoMemory l = l
+  loose_too us its (read_errs.Fault kind) l = l
 
   gone_too : (us : List Token) (its : first us ≡ Some t) (some : us ≡ [] → ⊥) (o other : Outcome Measured) (x : Measured) → Near L t s us (at_place L t s us (inl its)) o other → other ≡ Ok (x, []) → Gone L t s v (at_place L t s v stand) o
   gone_too us its some (Ok p) other x (inl gone) is = gone
@@ -362,7 +362,7 @@ module _ (L : FaultKind → Type 0) (t : Token) (s v : List Token) (stand : Stan
   name_gone : (text : List ℕ) → t.kind ≡ kinds.Name text → Gone L t s v (at_place L t s v stand) (place (suc deep) (t ∷ s))
   name_gone text kind =
       place_gone (ap (is_mark At) kind) (ap (is_mark Minus) kind)
-      (expr_gone [] (e.Name t.at text) 1 (a_primary t (gives_row (e.Name t.at text)) [] 14 1 (e.Name t.at text) (rw kind refl) (rw kind refl) (omega arith) (nothing_behind 0 (e.Name t.at text))) (omega arith))
+      (expr_gone [] (e.Name t.at text) 1 (a_primary t (gives_series (e.Name t.at text)) [] 14 1 (e.Name t.at text) (rw kind refl) (rw kind refl) (omega arith) (nothing_behind 0 (e.Name t.at text))) (omega arith))
 
   abbrev pub bare_test : Option Token → Option Token → Bool
   bare_test o p = if holds is_name o then (if holds goes_on p then false else true) else false
@@ -397,7 +397,7 @@ module _ (L : FaultKind → Type 0) (t : Token) (s v : List Token) (stand : Stan
       let k = suffix_kind t.kind goes in
       gone_then L t s v (at_place L t s v stand) (place (suc deep) (x ∷ (t ∷ s))) (headed (suc deep) at)
       (place_behind x (t ∷ s) (ap (is_mark At) n.1) (ap (is_mark Minus) n.1)
-      (leaf_gone L t s v (at_place L t s v stand) deep 14 x (gives_row (e.Name x.at n.0)) (ap prefix_of n.1) (ap (start_of x.at) n.1) (suffix_gone L t s v (at_place L t s v stand) deep (e.Name x.at n.0, 1) k.0 k.1 loose)))
+      (leaf_gone L t s v (at_place L t s v stand) deep 14 x (gives_series (e.Name x.at n.0)) (ap prefix_of n.1) (ap (start_of x.at) n.1) (suffix_gone L t s v (at_place L t s v stand) deep (e.Name x.at n.0, 1) k.0 k.1 loose)))
       (λ y rest. (twin_headed at y).leaves rest)
 
   bare_over : (at : Span) (x u : Token) → first v ≡ Some u → Ended L u → (b c : Bool) → is_name x.kind ≡ b → goes_on t.kind ≡ c
@@ -443,12 +443,12 @@ module _ (L : FaultKind → Type 0) (t : Token) (s v : List Token) (stand : Stan
   word_gone : (word : Word) (which : CallWord) → t.kind ≡ kinds.Word word → operand_word word ≡ operands.Call which → Gone L t s v (at_place L t s v stand) (place (suc deep) (t ∷ s))
   word_gone word which kind is =
       let tree = e.CallWord t.at which [] in
-      let row = call_word_row t.at which in
-      let behind_row = λ (all : List Expr). gives_row (e.CallWord t.at which all) in
+      let series = call_word_production t.at which in
+      let behind_series = λ (all : List Expr). gives_series (e.CallWord t.at which all) in
       place_gone (ap (is_mark At) kind) (ap (is_mark Minus) kind)
       (expr_gone (mark_token Open ∷ mark_token Close ∷ []) tree 1
-      (a_primary t row (mark_token Open ∷ mark_token Close ∷ []) 14 1 tree (ap prefix_of kind ∙ no_prefix word which is) (rw (kind, is) refl) (omega arith)
-      (a_mark (mark_token Open) (mark_token Close ∷ []) Open _ 0 1 tree refl (no_arguments (mark_token Close) [] behind_row 0 1 tree refl (nothing_behind 0 tree))))
+      (a_primary t series (mark_token Open ∷ mark_token Close ∷ []) 14 1 tree (ap prefix_of kind ∙ no_prefix word which is) (rw (kind, is) refl) (omega arith)
+      (a_mark (mark_token Open) (mark_token Close ∷ []) Open _ 0 1 tree refl (no_arguments (mark_token Close) [] behind_series 0 1 tree refl (nothing_behind 0 tree))))
       (omega arith))
 
   valued_gone : (at : Span) (word : Word) (which : CallWord) → t.kind ≡ kinds.Word word → operand_word word ≡ operands.Call which → Gone L t s v (at_place L t s v stand) (valued (suc deep) at (t ∷ s))
@@ -476,11 +476,11 @@ module _ (L : FaultKind → Type 0) (t : Token) (s v : List Token) (stand : Stan
   word_goes : (at : Span) (x : Token) (word : Word) (which : CallWord) → x.kind ≡ kinds.Word word → operand_word word ≡ operands.Call which → is_mark Open t.kind ≡ true → Gone L t s v (at_place L t s v stand) (valued (suc deep) at (x ∷ (t ∷ s)))
   unfolding valued sees_bare sees_name first
   word_goes at x word which kind is open_ =
-      let row : start_of x.at x.kind ≡ Leaf (call_word_row x.at which) = ap (start_of x.at) kind ∙ ap (word_start x.at) is in
+      let series : start_of x.at x.kind ≡ Leaf (call_word_production x.at which) = ap (start_of x.at) kind ∙ ap (word_start x.at) is in
       let no_name : is_name x.kind ≡ false = ap is_name kind in
       rw no_name (gone_then L t s v (at_place L t s v stand) (place (suc deep) (x ∷ (t ∷ s))) (headed (suc deep) at)
       (place_behind x (t ∷ s) (ap (is_mark At) kind) (ap (is_mark Minus) kind)
-      (leaf_gone L t s v (at_place L t s v stand) deep 14 x (call_word_row x.at which) (ap prefix_of kind ∙ no_prefix word which is) row (open_gone L t s v (at_place L t s v stand) deep Open (arguments_row (λ (all : List Expr). gives_row (e.CallWord x.at which all))) open_)))
+      (leaf_gone L t s v (at_place L t s v stand) deep 14 x (call_word_production x.at which) (ap prefix_of kind ∙ no_prefix word which is) series (open_gone L t s v (at_place L t s v stand) deep Open (arguments_production (λ (all : List Expr). gives_series (e.CallWord x.at which all))) open_)))
       (λ y rest. (twin_headed at y).leaves rest))
 
   called_over : (at : Span) (x u : Token) (word : Word) (which : CallWord) → x.kind ≡ kinds.Word word → operand_word word ≡ operands.Call which → first v ≡ Some u → Ended L u → (b : Bool) → is_mark Open t.kind ≡ b
@@ -525,12 +525,12 @@ module _ (L : FaultKind → Type 0) (t : Token) (s v : List Token) (stand : Stan
   pub twin_exit : (at : Span) → Eats L t s v stand (exit at) (exit at)
   unfolding exit
   twin_exit at = twin_taking (chosen L t s v stand exit_at (exit_by at) (exit_by at) (λ odd. fails_by exit_of None (λ n. refl) refl refl refl refl refl odd.u odd.why)
-      (stopped L t s v stand (λ ts. stops.Fault Expected) (λ ts. stops.Fault Expected)) (λ which. took L t s v stand (k.Exit at which)))
+      (stopped L t s v stand (λ ts. read_errs.Fault Expected) (λ ts. read_errs.Fault Expected)) (λ which. took L t s v stand (k.Exit at which)))
 
   pub twin_continue : (at : Span) → Eats L t s v stand (continue_ at) (continue_ at)
   unfolding continue_
   twin_continue at = twin_taking (chosen L t s v stand continue_at (continue_by at) (continue_by at) (λ odd. fails_by continue_of None (λ n. refl) refl refl refl refl refl odd.u odd.why)
-      (stopped L t s v stand (λ ts. stops.Fault Expected) (λ ts. stops.Fault Expected)) (λ which. took L t s v stand (k.Continue at which)))
+      (stopped L t s v stand (λ ts. read_errs.Fault Expected) (λ ts. read_errs.Fault Expected)) (λ which. took L t s v stand (k.Continue at which)))
 
   pub twin_return : (at : Span) → Eats L t s v stand (return_ (suc deep) at) (return_ (suc deeper) at)
   unfolding return_

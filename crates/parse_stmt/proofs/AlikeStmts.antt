@@ -23,15 +23,15 @@ use Rattle.fb_ast.specs.declared.stmt.Stmt.TheVariants as k
 use Rattle.fb_ast.specs.declared.stmt.Test.{Test}
 use Rattle.fb_ast.specs.declared.stmt.Until.{Until}
 use Rattle.fb_ast.specs.declared.part.Name.{Name}
-use Rattle.parse_expr.specs.declared.stop.Stop.TheVariants as stops
+use Rattle.parse_expr.specs.declared.error.ReadErr.TheVariants as read_errs
 use Rattle.parse_expr.specs.Reading.{first, next, is_word, holds, same_word, sees_word, expect_word, Outcome, Reader, and_then, pure, take_token}
 use Rattle.parse_expr.specs.Expr.{place_or}
 use Rattle.parse_expr.proofs.Sound.{Done}
 use Rattle.parse_expr.proofs.Ends.{Suffixes, same_end, Leaves}
 use Rattle.parse_expr.proofs.Twins.{Rooms, here, there, Gone, Near, gone_then, past, eaten}
 use Rattle.parse_parts.specs.declared.kinds.Level.{Level}
-use Rattle.parse_parts.specs.declared.kinds.Line.{Line}
-use Rattle.parse_parts.specs.declared.kinds.Line.TheVariants as lines
+use Rattle.parse_parts.specs.declared.kinds.InLine.{InLine}
+use Rattle.parse_parts.specs.declared.kinds.InLine.TheVariants as lines
 use Rattle.parse_parts.specs.declared.kinds.Spot.{Spot}
 use Rattle.parse_parts.specs.declared.kinds.Lead.{Lead}
 use Rattle.parse_parts.specs.declared.kinds.Lead.TheVariants as leads
@@ -41,7 +41,7 @@ use Rattle.parse_parts.specs.Words.{level_within, line_within, lead_of, ends_wit
 use Rattle.parse_parts.specs.Steps.{whole, any_name, place_at, origin, last_before, astray, extra, sees_sep, any_value}
 use Rattle.parse_parts.specs.Simple.{end_}
 use Rattle.parse_parts.specs.Cases.{until_at, test_by, any_test, last_test, comparison_at, is_by, is_case, case_from, one_case, case_turn, case_list, cases_}
-use Rattle.parse_stmt.specs.Blocks.{sees_end, closed, end_of, body, row_turn, row_from, row, row_end, row_then, row_else, row_other, if_row, branch, else_if, branch_turn, branches, else_body, any_else, if_block, if_by, if_behind, if_, range, for_head, for_tail, for_, while_, do_, case_branch, select_turn, case_branches, select, scope, led, statement_at, statement, deep_by, deep_at, no_room, stmt}
+use Rattle.parse_stmt.specs.Blocks.{sees_end, closed, end_of, body, series_turn, series_from, series, series_end, series_then, series_else, series_other, if_series, branch, else_if, branch_turn, branches, else_body, any_else, if_block, if_by, if_behind, if_, range, for_head, for_tail, for_, while_, do_, case_branch, select_turn, case_branches, select, scope, led, statement_at, statement, deep_by, deep_at, no_room, stmt}
 use Rattle.parse_stmt.specs.Statements as grammar
 use Rattle.parse_stmt.proofs.Smallest.{word_is}
 use Rattle.parse_stmt.proofs.Parts.{exact_case}
@@ -50,7 +50,7 @@ use Rattle.parse_stmt.proofs.Stmts.{inside_of}
 use Rattle.parse_stmt.proofs.Odd.{is_odd_word, by_end, fails_by, refused_word, refused_lead, Ends, Refused, Ended, Stand}
 use Rattle.parse_stmt.proofs.Alike.{Shortens, at_place, Both, T, Eats, Taken, SameNext, Over, next_same, first_same, followed, made, given, took, behind, stopped, seen, chosen, expect_near, extra_gone, twin_word, twin_expect, twin_expect_word, twin_sep, twin_here, twin_list, last_same}
 use Rattle.parse_stmt.proofs.AlikeParts.{exact_leaves, twin_whole, twin_any_value, twin_value_behind, twin_any_name, twin_any_type, twin_a_name, twin_taking, twin_dim, twin_static, twin_constant, twin_valued, valued_taken, called_here, called_near, called_leaves, twin_result, twin_line_input, twin_exit, twin_continue, twin_return, twin_delete, twin_end}
-use Rattle.parse_stmt.proofs.AlikeEnds.{ended_leaves, AtEnd, GoneOrStays, NearOrStays, E, Rests, Left, Closes, Last, Apart, weak, gone_or, stays_then, stays_made, closing, before, gone_close, stays_behind, stays_eaten, stays_at_sep, stays_word, word_gone, twin_at_word, stays_all, all_stays, first_apart, stays_placed, call_kind, value_begins, shortens_row, shortens_word}
+use Rattle.parse_stmt.proofs.AlikeEnds.{ended_leaves, AtEnd, GoneOrStays, NearOrStays, E, Rests, Left, Closes, Last, Apart, weak, gone_or, stays_then, stays_made, closing, before, gone_close, stays_behind, stays_eaten, stays_at_sep, stays_word, word_gone, twin_at_word, stays_all, all_stays, first_apart, stays_placed, call_kind, value_begins, shortens_series, shortens_word}
 use Rattle.parse_stmt.proofs.AlikePrint.{stays_print, print_gone}
 use Rattle.parse_stmt.proofs.AlikeBlocks.{Inner, astray_gone, extra_astray, inner_leaves, other_leaves, stays_body, left_alone}
 
@@ -62,131 +62,131 @@ module _ (L : FaultKind → Type 0) (t : Token) (s v : List Token) (stand : Stan
     abbrev leave_other : (spot : Spot) (ts : List Token) → Done (λ (x : Stmt) rest. Suffixes rest ts) (inner' spot ts)
     leave_other = other_leaves L t s v stand deep deeper rooms inner inner' room room' i
 
-    body_stays : (level : Level) (line : Line) (closer : Closer) → E L t s v stand (Closes L t s v stand closer) (body (suc deep) inner room level line closer) (body (suc deeper) inner' room' level line closer)
+    body_stays : (level : Level) (line : InLine) (closer : Closer) → E L t s v stand (Closes L t s v stand closer) (body (suc deep) inner room level line closer) (body (suc deeper) inner' room' level line closer)
     body_stays = stays_body L t s v stand deep deeper rooms inner inner' room room' i
 
     -- ---- the one-line If
 
     abbrev next_one : (Spot → Reader Stmt) → Level → List Stmt → Reader (List Stmt × Bool)
-    next_one reader level found = λ ts. and_then (reader (record { level = level; line = lines.Row; other = Expected }) ts) (λ x. pure (found ++ x ∷ [], true))
+    next_one reader level found = λ ts. and_then (reader (record { level = level; line = lines.Series; other = Expected }) ts) (λ x. pure (found ++ x ∷ [], true))
 
     stays_next : (level : Level) (found : List Stmt) → E L t s v stand (Rests L t s v stand) (next_one inner level found) (next_one inner' level found)
-    stays_next level found = stays_made L t s v stand (Rests L t s v stand) (Rests L t s v stand) (λ (x : Stmt). (found ++ x ∷ [], true)) (i.twin (record { level = level; line = lines.Row; other = Expected })) (λ x rest d. d)
+    stays_next level found = stays_made L t s v stand (Rests L t s v stand) (Rests L t s v stand) (λ (x : Stmt). (found ++ x ∷ [], true)) (i.twin (record { level = level; line = lines.Series; other = Expected })) (λ x rest d. d)
 
-    stays_row_turn : (level : Level) (found : List Stmt) → E L t s v stand (Rests L t s v stand) (row_turn (suc deep) inner room level found) (row_turn (suc deeper) inner' room' level found)
-    unfolding row_turn
-    stays_row_turn level found =
-        stays_at_sep L t s v stand (Rests L t s v stand) lines.Row (stays_behind L t s v stand (Rests L t s v stand) (stays_next level found)) (stays_eaten L t s v stand (Rests L t s v stand) (stays_next level found)) (weak L t s v stand (Rests L t s v stand) (given L t s v stand (found, false))) (λ ends. inr (ends, refl))
+    stays_series_turn : (level : Level) (found : List Stmt) → E L t s v stand (Rests L t s v stand) (series_turn (suc deep) inner room level found) (series_turn (suc deeper) inner' room' level found)
+    unfolding series_turn
+    stays_series_turn level found =
+        stays_at_sep L t s v stand (Rests L t s v stand) lines.Series (stays_behind L t s v stand (Rests L t s v stand) (stays_next level found)) (stays_eaten L t s v stand (Rests L t s v stand) (stays_next level found)) (weak L t s v stand (Rests L t s v stand) (given L t s v stand (found, false))) (λ ends. inr (ends, refl))
 
-    row_last_by : (level : Level) (found : List Stmt) → Ends L → (b : Bool) → sees_sep lines.Row (t ∷ s) ≡ b → Gone L t s v (at_place L t s v stand) (row_turn (suc deep) inner room level found (t ∷ s)) ⊎ Last L t s v stand (Rests L t s v stand) (row_turn (suc deep) inner room level found (t ∷ s))
-    unfolding row_turn
-    row_last_by level found ends true is = rw is (inl (stays_eaten L t s v stand (Rests L t s v stand) (stays_next level found)))
-    row_last_by level found ends false is = rw is (inr (refl, (ends, refl)))
+    series_last_by : (level : Level) (found : List Stmt) → Ends L → (b : Bool) → sees_sep lines.Series (t ∷ s) ≡ b → Gone L t s v (at_place L t s v stand) (series_turn (suc deep) inner room level found (t ∷ s)) ⊎ Last L t s v stand (Rests L t s v stand) (series_turn (suc deep) inner room level found (t ∷ s))
+    unfolding series_turn
+    series_last_by level found ends true is = rw is (inl (stays_eaten L t s v stand (Rests L t s v stand) (stays_next level found)))
+    series_last_by level found ends false is = rw is (inr (refl, (ends, refl)))
 
-    row_last : (level : Level) (found : List Stmt) (rest : List Token) → Ends L × (rest ≡ t ∷ s) → Gone L t s v (at_place L t s v stand) (row_turn (suc deep) inner room level found rest) ⊎ Last L t s v stand (Rests L t s v stand) (row_turn (suc deep) inner room level found rest)
-    row_last level found rest d = subst (λ (ts : List Token). Gone L t s v (at_place L t s v stand) (row_turn (suc deep) inner room level found ts) ⊎ Last L t s v stand (Rests L t s v stand) (row_turn (suc deep) inner room level found ts)) (sym d.1) (row_last_by level found d.0 (sees_sep lines.Row (t ∷ s)) refl)
+    series_last : (level : Level) (found : List Stmt) (rest : List Token) → Ends L × (rest ≡ t ∷ s) → Gone L t s v (at_place L t s v stand) (series_turn (suc deep) inner room level found rest) ⊎ Last L t s v stand (Rests L t s v stand) (series_turn (suc deep) inner room level found rest)
+    series_last level found rest d = subst (λ (ts : List Token). Gone L t s v (at_place L t s v stand) (series_turn (suc deep) inner room level found ts) ⊎ Last L t s v stand (Rests L t s v stand) (series_turn (suc deep) inner room level found ts)) (sym d.1) (series_last_by level found d.0 (sees_sep lines.Series (t ∷ s)) refl)
 
-    stays_row_from : (level : Level) (x : Stmt) → E L t s v stand (Rests L t s v stand) (row_from (suc deep) inner room level x) (row_from (suc deeper) inner' room' level x)
-    unfolding row_from
-    stays_row_from level x = stays_all L t s v stand (Rests L t s v stand) (Rests L t s v stand) (row_turn (suc deep) inner room level) (row_turn (suc deeper) inner' room' level) (shortens_row (suc deep) inner room leave_inner level) (stays_row_turn level) (λ y rest d. d) (row_last level) (shortens_row (suc deeper) inner' room' leave_other level) (x ∷ [])
+    stays_series_from : (level : Level) (x : Stmt) → E L t s v stand (Rests L t s v stand) (series_from (suc deep) inner room level x) (series_from (suc deeper) inner' room' level x)
+    unfolding series_from
+    stays_series_from level x = stays_all L t s v stand (Rests L t s v stand) (Rests L t s v stand) (series_turn (suc deep) inner room level) (series_turn (suc deeper) inner' room' level) (shortens_series (suc deep) inner room leave_inner level) (stays_series_turn level) (λ y rest d. d) (series_last level) (shortens_series (suc deeper) inner' room' leave_other level) (x ∷ [])
 
-    row_from_rests : (level : Level) (x : Stmt) (rest : List Token) → Ends L × (rest ≡ t ∷ s) → GoneOrStays L t s v stand (Rests L t s v stand) (row_from (suc deep) inner room level x rest)
-    unfolding row_from
-    row_from_rests level x rest d = all_stays L t s v stand (Rests L t s v stand) (Rests L t s v stand) (row_turn (suc deep) inner room level) (row_turn (suc deeper) inner' room' level) (shortens_row (suc deep) inner room leave_inner level) (stays_row_turn level) (λ y rest d. d) (row_last level) (x ∷ []) rest (row_last level (x ∷ []) rest d)
+    series_from_rests : (level : Level) (x : Stmt) (rest : List Token) → Ends L × (rest ≡ t ∷ s) → GoneOrStays L t s v stand (Rests L t s v stand) (series_from (suc deep) inner room level x rest)
+    unfolding series_from
+    series_from_rests level x rest d = all_stays L t s v stand (Rests L t s v stand) (Rests L t s v stand) (series_turn (suc deep) inner room level) (series_turn (suc deeper) inner' room' level) (shortens_series (suc deep) inner room leave_inner level) (stays_series_turn level) (λ y rest d. d) (series_last level) (x ∷ []) rest (series_last level (x ∷ []) rest d)
 
-    stays_row : (level : Level) (other : FaultKind) → E L t s v stand (Rests L t s v stand) (row (suc deep) inner room level other) (row (suc deeper) inner' room' level other)
-    unfolding row
-    stays_row level other = stays_then L t s v stand (Rests L t s v stand) (Rests L t s v stand) (i.twin (record { level = level; line = lines.Row; other = other })) (stays_row_from level) (row_from_rests level)
+    stays_series : (level : Level) (other : FaultKind) → E L t s v stand (Rests L t s v stand) (series (suc deep) inner room level other) (series (suc deeper) inner' room' level other)
+    unfolding series
+    stays_series level other = stays_then L t s v stand (Rests L t s v stand) (Rests L t s v stand) (i.twin (record { level = level; line = lines.Series; other = other })) (stays_series_from level) (series_from_rests level)
 
-    row_gone : (level : Level) (other : FaultKind) (u : Token) → Refused L t u ⊎ Ends L × (other ≡ ExtraText) → Gone L t s v (at_place L t s v stand) (row (suc deep) inner room level other (t ∷ s))
-    unfolding row
-    row_gone level other u why = gone_then L t s v (at_place L t s v stand) (inner (record { level = level; line = lines.Row; other = other }) (t ∷ s)) (row_from (suc deep) inner room level) (i.odd_gone (record { level = level; line = lines.Row; other = other }) u why) (λ x rest. (stays_row_from level x).leaves rest)
+    series_gone : (level : Level) (other : FaultKind) (u : Token) → Refused L t u ⊎ Ends L × (other ≡ ExtraText) → Gone L t s v (at_place L t s v stand) (series (suc deep) inner room level other (t ∷ s))
+    unfolding series
+    series_gone level other u why = gone_then L t s v (at_place L t s v stand) (inner (record { level = level; line = lines.Series; other = other }) (t ∷ s)) (series_from (suc deep) inner room level) (i.odd_gone (record { level = level; line = lines.Series; other = other }) u why) (λ x rest. (stays_series_from level x).leaves rest)
 
     -- where an Else comes next
     else_there : (rest r : List Token) → first r ≡ first rest → sees_word w.KwElse r ≡ sees_word w.KwElse rest
     unfolding sees_word
     else_there rest r is = ap (holds (is_word w.KwElse)) is
 
-    abbrev row_block : List Token → List Stmt → List Token → Block
-    row_block ts all rest = roll-Block (record { stmts = all; end = if sees_word w.KwElse rest then place_at rest else last_before ts rest })
+    abbrev series_block : List Token → List Stmt → List Token → Block
+    series_block ts all rest = roll-Block (record { stmts = all; end = if sees_word w.KwElse rest then place_at rest else last_before ts rest })
 
     abbrev else_block : List Token → List Stmt → List Token → Block
     else_block ts all rest = roll-Block (record { stmts = all; end = last_before ts rest })
 
-    row_end_first : (ts us : List Token) (all : List Stmt) (rest r : List Token) → first r ≡ first rest → last_before us r ≡ last_before ts rest → row_block us all r ≡ row_block ts all rest
+    series_end_first : (ts us : List Token) (all : List Stmt) (rest r : List Token) → first r ≡ first rest → last_before us r ≡ last_before ts rest → series_block us all r ≡ series_block ts all rest
     unfolding place_at
-    row_end_first ts us all rest r is last = rw (else_there rest r is, last, is) refl
+    series_end_first ts us all rest r is last = rw (else_there rest r is, last, is) refl
 
-    row_end_refused : (ts us : List Token) (all : List Stmt) (rest r : List Token) → SameNext L t s v stand rest r → sees_word w.KwElse rest ≡ false → last_before us r ≡ last_before ts rest → row_block us all r ≡ row_block ts all rest
+    series_end_refused : (ts us : List Token) (all : List Stmt) (rest r : List Token) → SameNext L t s v stand rest r → sees_word w.KwElse rest ≡ false → last_before us r ≡ last_before ts rest → series_block us all r ≡ series_block ts all rest
     unfolding sees_word
-    row_end_refused ts us all rest r n none last = rw (n.word w.KwElse refl refl, none, last) refl
+    series_end_refused ts us all rest r n none last = rw (n.word w.KwElse refl refl, none, last) refl
 
     else_refused : (u : Token) → Refused L t u → sees_word w.KwElse (t ∷ s) ≡ false
     unfolding sees_word first
     else_refused u r = refused_word w.KwElse t.kind r.word refl
 
-    row_end_here : (ts us : List Token) (all : List Stmt) → SameNext L t s v stand (t ∷ s) v ⊎ Over L t s v stand (t ∷ s) v → last_before us v ≡ last_before ts (t ∷ s) → (u : Token) → Refused L t u ⊎ Ended L u → (row_block us all v ≡ row_block ts all (t ∷ s)) ⊎ Ends L × (t ∷ s ≡ t ∷ s)
-    row_end_here ts us all next last u (inr e) = inr (e.ends, refl)
-    row_end_here ts us all (inl n) last u (inl r) = inl (row_end_refused ts us all (t ∷ s) v n (else_refused u r) last)
-    row_end_here ts us all (inr o) last u (inl r) = inr (o.ended.ends, refl)
+    series_end_here : (ts us : List Token) (all : List Stmt) → SameNext L t s v stand (t ∷ s) v ⊎ Over L t s v stand (t ∷ s) v → last_before us v ≡ last_before ts (t ∷ s) → (u : Token) → Refused L t u ⊎ Ended L u → (series_block us all v ≡ series_block ts all (t ∷ s)) ⊎ Ends L × (t ∷ s ≡ t ∷ s)
+    series_end_here ts us all next last u (inr e) = inr (e.ends, refl)
+    series_end_here ts us all (inl n) last u (inl r) = inl (series_end_refused ts us all (t ∷ s) v n (else_refused u r) last)
+    series_end_here ts us all (inr o) last u (inl r) = inr (o.ended.ends, refl)
 
-    row_end_by : (ts us : List Token) (all : List Stmt) → Stand L t v → (rest r : List Token) → Both L t s v stand rest r → last_before us r ≡ last_before ts rest → (row_block us all r ≡ row_block ts all rest) ⊎ Ends L × (rest ≡ t ∷ s)
+    series_end_by : (ts us : List Token) (all : List Stmt) → Stand L t v → (rest r : List Token) → Both L t s v stand rest r → last_before us r ≡ last_before ts rest → (series_block us all r ≡ series_block ts all rest) ⊎ Ends L × (rest ≡ t ∷ s)
     unfolding first
-    row_end_by ts us all (inl same) rest r al last = inl (row_end_first ts us all rest r (first_same L t s v stand same rest r al) last)
-    row_end_by ts us all (inr odd) rest r here last = row_end_here ts us all (next_same L t s v stand (t ∷ s) v here) last odd.u odd.why
-    row_end_by ts us all (inr odd) rest r (there x a b al) last = inl (row_end_first ts us all (x ∷ a) (x ∷ b) refl last)
+    series_end_by ts us all (inl same) rest r al last = inl (series_end_first ts us all rest r (first_same L t s v stand same rest r al) last)
+    series_end_by ts us all (inr odd) rest r here last = series_end_here ts us all (next_same L t s v stand (t ∷ s) v here) last odd.u odd.why
+    series_end_by ts us all (inr odd) rest r (there x a b al) last = inl (series_end_first ts us all (x ∷ a) (x ∷ b) refl last)
 
     last_by : (ts us rest r : List Token) → Taken L t s v stand ts us rest r → (ts ≡ rest → first r ≡ first rest) ⊎ Ends L × (rest ≡ t ∷ s) → (last_before us r ≡ last_before ts rest) ⊎ Ends L × (rest ≡ t ∷ s)
     last_by ts us rest r k (inl same) = inl (last_same L t s v stand ts us rest r k same)
     last_by ts us rest r k (inr over) = inr over
 
-    row_end_same : (ts us : List Token) (all : List Stmt) (rest r : List Token) → Apart L t s v stand ts → Taken L t s v stand ts us rest r → Both L t s v stand rest r → (row_block us all r ≡ row_block ts all rest) ⊎ Ends L × (rest ≡ t ∷ s)
-    row_end_same ts us all rest r apart k al = elim (last_by ts us rest r k (first_apart L t s v stand ts rest r apart al)) [ inl last ↦ row_end_by ts us all stand rest r al last | inr over ↦ inr over ]
+    series_end_same : (ts us : List Token) (all : List Stmt) (rest r : List Token) → Apart L t s v stand ts → Taken L t s v stand ts us rest r → Both L t s v stand rest r → (series_block us all r ≡ series_block ts all rest) ⊎ Ends L × (rest ≡ t ∷ s)
+    series_end_same ts us all rest r apart k al = elim (last_by ts us rest r k (first_apart L t s v stand ts rest r apart al)) [ inl last ↦ series_end_by ts us all stand rest r al last | inr over ↦ inr over ]
 
     else_end_same : (ts us : List Token) (all : List Stmt) (rest r : List Token) → Apart L t s v stand ts → Taken L t s v stand ts us rest r → Both L t s v stand rest r → (else_block us all r ≡ else_block ts all rest) ⊎ Ends L × (rest ≡ t ∷ s)
     else_end_same ts us all rest r apart k al = elim (last_by ts us rest r k (first_apart L t s v stand ts rest r apart al)) [ inl last ↦ inl (ap (λ (end : Span). roll-Block (record { stmts = all; end = end })) last) | inr over ↦ inr over ]
 
-    stays_row_then : (level : Level) → E L t s v stand (Rests L t s v stand) (row_then (suc deep) inner room level) (row_then (suc deeper) inner' room' level)
-    unfolding row_then row_end
-    stays_row_then level = stays_placed L t s v stand row_block row_end_same (stays_row level ExtraText) (λ u r. row_gone level ExtraText u (inl r))
+    stays_series_then : (level : Level) → E L t s v stand (Rests L t s v stand) (series_then (suc deep) inner room level) (series_then (suc deeper) inner' room' level)
+    unfolding series_then series_end
+    stays_series_then level = stays_placed L t s v stand series_block series_end_same (stays_series level ExtraText) (λ u r. series_gone level ExtraText u (inl r))
 
-    row_then_gone : (level : Level) → Ends L → Gone L t s v (at_place L t s v stand) (row_then (suc deep) inner room level (t ∷ s))
-    unfolding row_then row_end
-    row_then_gone level ends = gone_then L t s v (at_place L t s v stand) (row (suc deep) inner room level ExtraText (t ∷ s)) (λ all rest. Ok (row_block (t ∷ s) all rest, rest)) (row_gone level ExtraText t (inr (ends, refl))) (λ all rest. same_end rest)
+    series_then_gone : (level : Level) → Ends L → Gone L t s v (at_place L t s v stand) (series_then (suc deep) inner room level (t ∷ s))
+    unfolding series_then series_end
+    series_then_gone level ends = gone_then L t s v (at_place L t s v stand) (series (suc deep) inner room level ExtraText (t ∷ s)) (λ all rest. Ok (series_block (t ∷ s) all rest, rest)) (series_gone level ExtraText t (inr (ends, refl))) (λ all rest. same_end rest)
 
-    stays_row_else : (level : Level) → E L t s v stand (Rests L t s v stand) (row_else (suc deep) inner room level) (row_else (suc deeper) inner' room' level)
-    unfolding row_else
-    stays_row_else level = stays_placed L t s v stand else_block else_end_same (stays_row level Expected) (λ u r. row_gone level Expected u (inl r))
+    stays_series_else : (level : Level) → E L t s v stand (Rests L t s v stand) (series_else (suc deep) inner room level) (series_else (suc deeper) inner' room' level)
+    unfolding series_else
+    stays_series_else level = stays_placed L t s v stand else_block else_end_same (stays_series level Expected) (λ u r. series_gone level Expected u (inl r))
 
-    else_at : (level : Level) (at : Span) → E L t s v stand {A = Option (Span × Block)} (Rests L t s v stand) (λ ts. and_then (row_else (suc deep) inner room level ts) (λ b. pure (Some (at, b)))) (λ ts. and_then (row_else (suc deeper) inner' room' level ts) (λ b. pure (Some (at, b))))
-    else_at level at = stays_made L t s v stand (Rests L t s v stand) (Rests L t s v stand) (λ (b : Block). Some (at, b)) (stays_row_else level) (λ b rest d. d)
+    else_at : (level : Level) (at : Span) → E L t s v stand {A = Option (Span × Block)} (Rests L t s v stand) (λ ts. and_then (series_else (suc deep) inner room level ts) (λ b. pure (Some (at, b)))) (λ ts. and_then (series_else (suc deeper) inner' room' level ts) (λ b. pure (Some (at, b))))
+    else_at level at = stays_made L t s v stand (Rests L t s v stand) (Rests L t s v stand) (λ (b : Block). Some (at, b)) (stays_series_else level) (λ b rest d. d)
 
-    stays_row_other : (level : Level) → E L t s v stand (Rests L t s v stand) (row_other (suc deep) inner room level) (row_other (suc deeper) inner' room' level)
-    unfolding row_other
-    stays_row_other level = stays_word L t s v stand (Rests L t s v stand) w.KwElse refl (else_at level) (weak L t s v stand (Rests L t s v stand) (given L t s v stand None))
+    stays_series_other : (level : Level) → E L t s v stand (Rests L t s v stand) (series_other (suc deep) inner room level) (series_other (suc deeper) inner' room' level)
+    unfolding series_other
+    stays_series_other level = stays_word L t s v stand (Rests L t s v stand) w.KwElse refl (else_at level) (weak L t s v stand (Rests L t s v stand) (given L t s v stand None))
 
-    row_other_here : (level : Level) → Ends L → GoneOrStays L t s v stand (Rests L t s v stand) (row_other (suc deep) inner room level (t ∷ s))
-    unfolding row_other
-    row_other_here level ends = word_gone L t s v stand (Rests L t s v stand) (Rests L t s v stand) w.KwElse (λ ts. Ok (None, ts)) (else_at level) (λ is. inr (ends, refl))
+    series_other_here : (level : Level) → Ends L → GoneOrStays L t s v stand (Rests L t s v stand) (series_other (suc deep) inner room level (t ∷ s))
+    unfolding series_other
+    series_other_here level ends = word_gone L t s v stand (Rests L t s v stand) (Rests L t s v stand) w.KwElse (λ ts. Ok (None, ts)) (else_at level) (λ is. inr (ends, refl))
 
     abbrev line_if : ℕ → (Spot → Reader Stmt) → ℕ → Span → Expr → Level → Block → Reader Stmt
-    line_if most reader depth at condition level one = λ ts. and_then (row_other most reader depth level ts) (λ other. pure (k.IfLine at condition one other))
+    line_if most reader depth at condition level one = λ ts. and_then (series_other most reader depth level ts) (λ other. pure (k.IfLine at condition one other))
 
     stays_line_if : (at : Span) (condition : Expr) (level : Level) (one : Block) → E L t s v stand (Rests L t s v stand) (line_if (suc deep) inner room at condition level one) (line_if (suc deeper) inner' room' at condition level one)
-    stays_line_if at condition level one = stays_made L t s v stand (Rests L t s v stand) (Rests L t s v stand) (λ other. k.IfLine at condition one other) (stays_row_other level) (λ other rest d. d)
+    stays_line_if at condition level one = stays_made L t s v stand (Rests L t s v stand) (Rests L t s v stand) (λ other. k.IfLine at condition one other) (stays_series_other level) (λ other rest d. d)
 
     line_if_rests : (at : Span) (condition : Expr) (level : Level) (one : Block) (rest : List Token) → Ends L × (rest ≡ t ∷ s) → GoneOrStays L t s v stand (Rests L t s v stand) (line_if (suc deep) inner room at condition level one rest)
     line_if_rests at condition level one rest d =
         subst (λ (ts : List Token). GoneOrStays L t s v stand (Rests L t s v stand) (line_if (suc deep) inner room at condition level one ts)) (sym d.1)
-        (gone_or L t s v stand (Rests L t s v stand) (Rests L t s v stand) (row_other (suc deep) inner room level (t ∷ s)) (λ other. pure (k.IfLine at condition one other)) (row_other_here level d.0) (λ other r. same_end r) (λ other r e. inr e))
+        (gone_or L t s v stand (Rests L t s v stand) (Rests L t s v stand) (series_other (suc deep) inner room level (t ∷ s)) (λ other. pure (k.IfLine at condition one other)) (series_other_here level d.0) (λ other r. same_end r) (λ other r e. inr e))
 
-    stays_if_row : (at : Span) (condition : Expr) (level : Level) → E L t s v stand (Rests L t s v stand) (if_row (suc deep) inner room at condition level) (if_row (suc deeper) inner' room' at condition level)
-    unfolding if_row
-    stays_if_row at condition level = stays_then L t s v stand (Rests L t s v stand) (Rests L t s v stand) (stays_row_then level) (stays_line_if at condition level) (line_if_rests at condition level)
+    stays_if_series : (at : Span) (condition : Expr) (level : Level) → E L t s v stand (Rests L t s v stand) (if_series (suc deep) inner room at condition level) (if_series (suc deeper) inner' room' at condition level)
+    unfolding if_series
+    stays_if_series at condition level = stays_then L t s v stand (Rests L t s v stand) (Rests L t s v stand) (stays_series_then level) (stays_line_if at condition level) (line_if_rests at condition level)
 
-    if_row_gone : (at : Span) (condition : Expr) (level : Level) → Ends L → Gone L t s v (at_place L t s v stand) (if_row (suc deep) inner room at condition level (t ∷ s))
-    unfolding if_row
-    if_row_gone at condition level ends = gone_then L t s v (at_place L t s v stand) (row_then (suc deep) inner room level (t ∷ s)) (line_if (suc deep) inner room at condition level) (row_then_gone level ends) (λ one rest. (stays_line_if at condition level one).leaves rest)
+    if_series_gone : (at : Span) (condition : Expr) (level : Level) → Ends L → Gone L t s v (at_place L t s v stand) (if_series (suc deep) inner room at condition level (t ∷ s))
+    unfolding if_series
+    if_series_gone at condition level ends = gone_then L t s v (at_place L t s v stand) (series_then (suc deep) inner room level (t ∷ s)) (line_if (suc deep) inner room at condition level) (series_then_gone level ends) (λ one rest. (stays_line_if at condition level one).leaves rest)
 
     -- ---- what takes an End
 
@@ -224,11 +224,11 @@ module _ (L : FaultKind → Type 0) (t : Token) (s v : List Token) (stand : Stan
 
     -- ---- the If of several lines
 
-    stays_branch : (at : Span) (condition : Expr) (level : Level) (line : Line) → E L t s v stand (Closes L t s v stand closers.Branches) (branch (suc deep) inner room at condition level line) (branch (suc deeper) inner' room' at condition level line)
+    stays_branch : (at : Span) (condition : Expr) (level : Level) (line : InLine) → E L t s v stand (Closes L t s v stand closers.Branches) (branch (suc deep) inner room at condition level line) (branch (suc deeper) inner' room' at condition level line)
     unfolding branch
     stays_branch at condition level line = stays_made L t s v stand (Closes L t s v stand closers.Branches) (Closes L t s v stand closers.Branches) (λ b. roll-Branch (record { at = at; condition = condition; body = b })) (body_stays level line closers.Branches) (λ b rest d. d)
 
-    stays_else_if : (at : Span) (level : Level) (line : Line) → E L t s v stand (Closes L t s v stand closers.Branches) (else_if (suc deep) inner room at level line) (else_if (suc deeper) inner' room' at level line)
+    stays_else_if : (at : Span) (level : Level) (line : InLine) → E L t s v stand (Closes L t s v stand closers.Branches) (else_if (suc deep) inner room at level line) (else_if (suc deeper) inner' room' at level line)
     unfolding else_if
     stays_else_if at level line = before L t s v stand (Closes L t s v stand closers.Branches) (twin_whole L t s v stand deep deeper rooms) (λ condition. before L t s v stand (Closes L t s v stand closers.Branches) (twin_expect_word L t s v stand w.KwThen refl) (λ u. before L t s v stand (Closes L t s v stand closers.Branches) (twin_sep L t s v stand line) (λ x. stays_branch at condition level line)))
 
@@ -241,17 +241,17 @@ module _ (L : FaultKind → Type 0) (t : Token) (s v : List Token) (stand : Stan
     abbrev AfterBranches : List Branch → List Token → Type 0
     AfterBranches x rest = Left L t s v stand rest × (else_or_end rest ≡ true)
 
-    abbrev found_branch : ℕ → (Spot → Reader Stmt) → ℕ → Level → Line → List Branch → Span → Reader (List Branch × Bool)
+    abbrev found_branch : ℕ → (Spot → Reader Stmt) → ℕ → Level → InLine → List Branch → Span → Reader (List Branch × Bool)
     found_branch most reader depth level line found at = λ ts. and_then (else_if most reader depth at level line ts) (λ b. pure (found ++ b ∷ [], true))
 
-    stays_found_branch : (level : Level) (line : Line) (found : List Branch) (at : Span) → E L t s v stand AnotherBranch (found_branch (suc deep) inner room level line found at) (found_branch (suc deeper) inner' room' level line found at)
+    stays_found_branch : (level : Level) (line : InLine) (found : List Branch) (at : Span) → E L t s v stand AnotherBranch (found_branch (suc deep) inner room level line found at) (found_branch (suc deeper) inner' room' level line found at)
     stays_found_branch level line found at = stays_made L t s v stand (Closes L t s v stand closers.Branches) AnotherBranch (λ (b : Branch). (found ++ b ∷ [], true)) (stays_else_if at level line) (λ b rest d. (refl, d))
 
-    stays_branch_turn : (level : Level) (line : Line) (found : List Branch) → E L t s v stand AnotherBranch (branch_turn (suc deep) inner room level line found) (branch_turn (suc deeper) inner' room' level line found)
+    stays_branch_turn : (level : Level) (line : InLine) (found : List Branch) → E L t s v stand AnotherBranch (branch_turn (suc deep) inner room level line found) (branch_turn (suc deeper) inner' room' level line found)
     unfolding branch_turn
     stays_branch_turn level line found = stays_word L t s v stand AnotherBranch w.KwElseIf refl (stays_found_branch level line found) (weak L t s v stand AnotherBranch (given L t s v stand (found, false)))
 
-    branch_last_by : (level : Level) (line : Line) (found : List Branch) (rest : List Token) → Left L t s v stand rest → (b : Bool) → sees_word w.KwElseIf rest ≡ b → (if b then true else else_or_end rest) ≡ true
+    branch_last_by : (level : Level) (line : InLine) (found : List Branch) (rest : List Token) → Left L t s v stand rest → (b : Bool) → sees_word w.KwElseIf rest ≡ b → (if b then true else else_or_end rest) ≡ true
         → Gone L t s v (at_place L t s v stand) (branch_turn (suc deep) inner room level line found rest) ⊎ Last L t s v stand AfterBranches (branch_turn (suc deep) inner room level line found rest)
     unfolding branch_turn same_word
     branch_last_by level line found rest left true is closes =
@@ -259,43 +259,43 @@ module _ (L : FaultKind → Type 0) (t : Token) (s v : List Token) (stand : Stan
         inl (rw is (subst (λ (ts : List Token). Gone L t s v (at_place L t s v stand) (found_branch (suc deep) inner room level line found (place_at ts) (next ts))) (sym l.0) (stays_eaten L t s v stand AnotherBranch (stays_found_branch level line found (place_at (t ∷ s))))))
     branch_last_by level line found rest left false is closes = rw is (inr (refl, (left, closes)))
 
-    branch_last : (level : Level) (line : Line) (found : List Branch) (rest : List Token) → Left L t s v stand rest × (closed closers.Branches rest ≡ true) → Gone L t s v (at_place L t s v stand) (branch_turn (suc deep) inner room level line found rest) ⊎ Last L t s v stand AfterBranches (branch_turn (suc deep) inner room level line found rest)
+    branch_last : (level : Level) (line : InLine) (found : List Branch) (rest : List Token) → Left L t s v stand rest × (closed closers.Branches rest ≡ true) → Gone L t s v (at_place L t s v stand) (branch_turn (suc deep) inner room level line found rest) ⊎ Last L t s v stand AfterBranches (branch_turn (suc deep) inner room level line found rest)
     branch_last level line found rest d = branch_last_by level line found rest d.0 (sees_word w.KwElseIf rest) refl d.1
 
-    shortens_branch : (level : Level) (line : Line) → Shortens (branch_turn (suc deep) inner room level line)
+    shortens_branch : (level : Level) (line : InLine) → Shortens (branch_turn (suc deep) inner room level line)
     unfolding branch_turn
     shortens_branch level line = shortens_word w.KwElseIf (λ at. else_if (suc deep) inner room at level line) (λ at. ended_leaves (ended_else_if deep inner room i.Phrases i.inside level line at))
 
-    other_branch : (level : Level) (line : Line) → Shortens (branch_turn (suc deeper) inner' room' level line)
+    other_branch : (level : Level) (line : InLine) → Shortens (branch_turn (suc deeper) inner' room' level line)
     unfolding branch_turn
     other_branch level line = shortens_word w.KwElseIf (λ at. else_if (suc deeper) inner' room' at level line) (λ at. ended_leaves (ended_else_if deeper inner' room' i.OtherPhrases i.other_inside level line at))
 
     not_last : (x : List Branch) (rest : List Token) → AnotherBranch (x, false) rest → AfterBranches x rest
     not_last x rest d = let bad : false ≡ true = d.0 in cc
 
-    stays_branches : (level : Level) (line : Line) (one : Branch) → E L t s v stand AfterBranches (branches (suc deep) inner room level line one) (branches (suc deeper) inner' room' level line one)
+    stays_branches : (level : Level) (line : InLine) (one : Branch) → E L t s v stand AfterBranches (branches (suc deep) inner room level line one) (branches (suc deeper) inner' room' level line one)
     unfolding branches
     stays_branches level line one = stays_all L t s v stand AfterBranches AnotherBranch (branch_turn (suc deep) inner room level line) (branch_turn (suc deeper) inner' room' level line) (shortens_branch level line) (stays_branch_turn level line) not_last (λ x rest d. branch_last level line x rest d.1) (other_branch level line) (one ∷ [])
 
-    branches_stay : (level : Level) (line : Line) (one : Branch) (rest : List Token) → Left L t s v stand rest × (closed closers.Branches rest ≡ true) → GoneOrStays L t s v stand AfterBranches (branches (suc deep) inner room level line one rest)
+    branches_stay : (level : Level) (line : InLine) (one : Branch) (rest : List Token) → Left L t s v stand rest × (closed closers.Branches rest ≡ true) → GoneOrStays L t s v stand AfterBranches (branches (suc deep) inner room level line one rest)
     unfolding branches
     branches_stay level line one rest d = all_stays L t s v stand AfterBranches AnotherBranch (branch_turn (suc deep) inner room level line) (branch_turn (suc deeper) inner' room' level line) (shortens_branch level line) (stays_branch_turn level line) not_last (λ x rest d. branch_last level line x rest d.1) (one ∷ []) rest (branch_last level line (one ∷ []) rest d)
 
     abbrev OtherOne : Type 0
     OtherOne = Option (Span × Block)
 
-    abbrev else_part : ℕ → (Spot → Reader Stmt) → ℕ → Level → Line → Span → Reader OtherOne
+    abbrev else_part : ℕ → (Spot → Reader Stmt) → ℕ → Level → InLine → Span → Reader OtherOne
     else_part most reader depth level line at = λ ts. and_then (else_body most reader depth level line ts) (λ b. pure (Some (at, b)))
 
-    stays_else_part : (level : Level) (line : Line) (at : Span) → E L t s v stand (Closes L t s v stand closers.Else) (else_part (suc deep) inner room level line at) (else_part (suc deeper) inner' room' level line at)
+    stays_else_part : (level : Level) (line : InLine) (at : Span) → E L t s v stand (Closes L t s v stand closers.Else) (else_part (suc deep) inner room level line at) (else_part (suc deeper) inner' room' level line at)
     unfolding else_body
     stays_else_part level line at = stays_made L t s v stand (Closes L t s v stand closers.Else) (Closes L t s v stand closers.Else) (λ (b : Block). Some (at, b)) (before L t s v stand (Closes L t s v stand closers.Else) (twin_sep L t s v stand line) (λ u. body_stays level line closers.Else)) (λ b rest d. d)
 
-    stays_any_else : (level : Level) (line : Line) → E L t s v stand (Closes L t s v stand closers.Else) (any_else (suc deep) inner room level line) (any_else (suc deeper) inner' room' level line)
+    stays_any_else : (level : Level) (line : InLine) → E L t s v stand (Closes L t s v stand closers.Else) (any_else (suc deep) inner room level line) (any_else (suc deeper) inner' room' level line)
     unfolding any_else
     stays_any_else level line = stays_word L t s v stand (Closes L t s v stand closers.Else) w.KwElse refl (stays_else_part level line) (weak L t s v stand (Closes L t s v stand closers.Else) (given L t s v stand None))
 
-    else_stays_by : (level : Level) (line : Line) (rest : List Token) → Left L t s v stand rest → (b : Bool) → sees_word w.KwElse rest ≡ b → (if b then true else sees_end w.KwIf rest) ≡ true → GoneOrStays L t s v stand (Closes L t s v stand closers.Else) (any_else (suc deep) inner room level line rest)
+    else_stays_by : (level : Level) (line : InLine) (rest : List Token) → Left L t s v stand rest → (b : Bool) → sees_word w.KwElse rest ≡ b → (if b then true else sees_end w.KwIf rest) ≡ true → GoneOrStays L t s v stand (Closes L t s v stand closers.Else) (any_else (suc deep) inner room level line rest)
     unfolding any_else same_word
     else_stays_by level line rest left true is closes =
         let l = left_word w.KwElse refl rest left is in
@@ -311,52 +311,52 @@ module _ (L : FaultKind → Type 0) (t : Token) (s v : List Token) (stand : Stan
     last_part_gone : (at : Span) (all : List Branch) (other : OtherOne) (rest : List Token) → Left L t s v stand rest × (closed closers.Else rest ≡ true) → Gone L t s v (at_place L t s v stand) (last_part at all other rest)
     last_part_gone at all other rest d = end_of_gone w.KwIf refl (λ x. k.If at all other x) rest d.0 d.1
 
-    twin_from_else : (at : Span) (all : List Branch) (level : Level) (line : Line) → T L t s v stand (λ ts. and_then (any_else (suc deep) inner room level line ts) (last_part at all)) (λ ts. and_then (any_else (suc deeper) inner' room' level line ts) (last_part at all))
+    twin_from_else : (at : Span) (all : List Branch) (level : Level) (line : InLine) → T L t s v stand (λ ts. and_then (any_else (suc deep) inner room level line ts) (last_part at all)) (λ ts. and_then (any_else (suc deeper) inner' room' level line ts) (last_part at all))
     twin_from_else at all level line = closing L t s v stand (Closes L t s v stand closers.Else) (stays_any_else level line) (twin_last_part at all) (last_part_gone at all)
 
-    else_gone : (at : Span) (all : List Branch) (level : Level) (line : Line) (rest : List Token) → Left L t s v stand rest × (else_or_end rest ≡ true) → Gone L t s v (at_place L t s v stand) (and_then (any_else (suc deep) inner room level line rest) (last_part at all))
+    else_gone : (at : Span) (all : List Branch) (level : Level) (line : InLine) (rest : List Token) → Left L t s v stand rest × (else_or_end rest ≡ true) → Gone L t s v (at_place L t s v stand) (and_then (any_else (suc deep) inner room level line rest) (last_part at all))
     else_gone at all level line rest d = gone_close L t s v stand (Closes L t s v stand closers.Else) (any_else (suc deep) inner room level line rest) (last_part at all) (else_stays_by level line rest d.0 (sees_word w.KwElse rest) refl d.1) (λ other r. (twin_last_part at all other).leaves r) (last_part_gone at all)
 
-    abbrev from_branches : ℕ → (Spot → Reader Stmt) → ℕ → Span → Level → Line → Branch → Reader Stmt
+    abbrev from_branches : ℕ → (Spot → Reader Stmt) → ℕ → Span → Level → InLine → Branch → Reader Stmt
     from_branches most reader depth at level line one = λ ts. and_then (branches most reader depth level line one ts) (λ all us. and_then (any_else most reader depth level line us) (last_part at all))
 
-    branches_gone : (at : Span) (level : Level) (line : Line) (one : Branch) (rest : List Token) → Left L t s v stand rest × (closed closers.Branches rest ≡ true) → Gone L t s v (at_place L t s v stand) (from_branches (suc deep) inner room at level line one rest)
+    branches_gone : (at : Span) (level : Level) (line : InLine) (one : Branch) (rest : List Token) → Left L t s v stand rest × (closed closers.Branches rest ≡ true) → Gone L t s v (at_place L t s v stand) (from_branches (suc deep) inner room at level line one rest)
     branches_gone at level line one rest d = gone_close L t s v stand AfterBranches (branches (suc deep) inner room level line one rest) (λ all us. and_then (any_else (suc deep) inner room level line us) (last_part at all)) (branches_stay level line one rest d)
         (λ all r. (twin_from_else at all level line).leaves r) (λ all r e. else_gone at all level line r e)
 
-    twin_if_block : (at : Span) (condition : Expr) (level : Level) (line : Line) → T L t s v stand (if_block (suc deep) inner room at condition level line) (if_block (suc deeper) inner' room' at condition level line)
+    twin_if_block : (at : Span) (condition : Expr) (level : Level) (line : InLine) → T L t s v stand (if_block (suc deep) inner room at condition level line) (if_block (suc deeper) inner' room' at condition level line)
     unfolding if_block
     twin_if_block at condition level line =
         closing L t s v stand (Closes L t s v stand closers.Branches) (stays_branch at condition level line) (λ one. closing L t s v stand AfterBranches (stays_branches level line one) (λ all. twin_from_else at all level line) (λ all rest d. else_gone at all level line rest d))
         (λ one rest d. branches_gone at level line one rest d)
 
-    stays_if_by : (line : Line) (at : Span) (condition : Expr) (level : Level) → E L t s v stand (Rests L t s v stand) (if_by (suc deep) inner room line at condition level) (if_by (suc deeper) inner' room' line at condition level)
-    stays_if_by lines.Free at condition level = stays_if_row at condition level
-    stays_if_by lines.Row at condition level = stays_if_row at condition level
-    stays_if_by lines.Inner at condition level = weak L t s v stand (Rests L t s v stand) (stopped L t s v stand (λ ts. stops.Fault (extra ts)) (λ ts. stops.Fault (extra ts)))
+    stays_if_by : (line : InLine) (at : Span) (condition : Expr) (level : Level) → E L t s v stand (Rests L t s v stand) (if_by (suc deep) inner room line at condition level) (if_by (suc deeper) inner' room' line at condition level)
+    stays_if_by lines.Free at condition level = stays_if_series at condition level
+    stays_if_by lines.Series at condition level = stays_if_series at condition level
+    stays_if_by lines.Inner at condition level = weak L t s v stand (Rests L t s v stand) (stopped L t s v stand (λ ts. read_errs.Fault (extra ts)) (λ ts. read_errs.Fault (extra ts)))
 
-    if_by_gone : (line : Line) (at : Span) (condition : Expr) (level : Level) → Ends L → Gone L t s v (at_place L t s v stand) (if_by (suc deep) inner room line at condition level (t ∷ s))
-    if_by_gone lines.Free at condition level ends = if_row_gone at condition level ends
-    if_by_gone lines.Row at condition level ends = if_row_gone at condition level ends
+    if_by_gone : (line : InLine) (at : Span) (condition : Expr) (level : Level) → Ends L → Gone L t s v (at_place L t s v stand) (if_by (suc deep) inner room line at condition level (t ∷ s))
+    if_by_gone lines.Free at condition level ends = if_series_gone at condition level ends
+    if_by_gone lines.Series at condition level ends = if_series_gone at condition level ends
     if_by_gone lines.Inner at condition level ends = extra_gone L t s v stand Stmt ends
 
-    stays_if_behind : (at : Span) (condition : Expr) (level : Level) (line : Line) → E L t s v stand (Rests L t s v stand) (if_behind (suc deep) inner room at condition level line) (if_behind (suc deeper) inner' room' at condition level line)
+    stays_if_behind : (at : Span) (condition : Expr) (level : Level) (line : InLine) → E L t s v stand (Rests L t s v stand) (if_behind (suc deep) inner room at condition level line) (if_behind (suc deeper) inner' room' at condition level line)
     unfolding if_behind
     stays_if_behind at condition level line =
         let block = behind L t s v stand (twin_if_block at condition (level_within level) (line_within line)) in
         stays_at_sep L t s v stand (Rests L t s v stand) line (weak L t s v stand (Rests L t s v stand) block.twin) block.gone (stays_if_by line at condition (level_within level)) (λ ends. inl (if_by_gone line at condition (level_within level) ends))
 
-    abbrev if_parts : ℕ → (Spot → Reader Stmt) → ℕ → Span → Level → Line → Reader Stmt
+    abbrev if_parts : ℕ → (Spot → Reader Stmt) → ℕ → Span → Level → InLine → Reader Stmt
     if_parts most reader depth at level line = λ ts. and_then (whole most ts) (λ condition us. and_then (expect_word w.KwThen us) (λ u. if_behind most reader depth at condition level line))
 
-    stays_if_parts : (at : Span) (level : Level) (line : Line) → E L t s v stand (Rests L t s v stand) (if_parts (suc deep) inner room at level line) (if_parts (suc deeper) inner' room' at level line)
+    stays_if_parts : (at : Span) (level : Level) (line : InLine) → E L t s v stand (Rests L t s v stand) (if_parts (suc deep) inner room at level line) (if_parts (suc deeper) inner' room' at level line)
     stays_if_parts at level line = before L t s v stand (Rests L t s v stand) (twin_whole L t s v stand deep deeper rooms) (λ condition. before L t s v stand (Rests L t s v stand) (twin_expect_word L t s v stand w.KwThen refl) (λ u. stays_if_behind at condition level line))
 
-    stays_if_ : (at : Span) (level : Level) (line : Line) → E L t s v stand (Rests L t s v stand) (if_ (suc deep) inner room at level line) (if_ (suc deeper) inner' room' at level line)
+    stays_if_ : (at : Span) (level : Level) (line : InLine) → E L t s v stand (Rests L t s v stand) (if_ (suc deep) inner room at level line) (if_ (suc deeper) inner' room' at level line)
     unfolding if_
     stays_if_ at level line = stays_behind L t s v stand (Rests L t s v stand) (stays_if_parts at level line)
 
-    if_gone : (at : Span) (level : Level) (line : Line) → Gone L t s v (at_place L t s v stand) (if_ (suc deep) inner room at level line (t ∷ s))
+    if_gone : (at : Span) (level : Level) (line : InLine) → Gone L t s v (at_place L t s v stand) (if_ (suc deep) inner room at level line (t ∷ s))
     unfolding if_
     if_gone at level line = stays_eaten L t s v stand (Rests L t s v stand) (stays_if_parts at level line)
 
@@ -377,18 +377,18 @@ module _ (L : FaultKind → Type 0) (t : Token) (s v : List Token) (stand : Stan
     word_taken : {A : Type 0} (closer : Closer) → ends_with_end closer ≡ false → {f : Block → Reader A} → ((b : Block) → Eats L t s v stand (f b) (f b)) → (b : Block) (rest : List Token) → Left L t s v stand rest × (closed closer rest ≡ true) → Gone L t s v (at_place L t s v stand) (f b rest)
     word_taken closer apart {f = f} k b rest d = subst (λ (ts : List Token). Gone L t s v (at_place L t s v stand) (f b ts)) (sym (left_alone L t s v stand deep deeper rooms inner inner' room room' i closer apart b rest d)) (k b).gone
 
-    twin_for_tail : (level : Level) (line : Line) → T L t s v stand (for_tail (suc deep) inner room level line) (for_tail (suc deeper) inner' room' level line)
+    twin_for_tail : (level : Level) (line : InLine) → T L t s v stand (for_tail (suc deep) inner room level line) (for_tail (suc deeper) inner' room' level line)
     unfolding for_tail
     twin_for_tail level line = followed L t s v stand (twin_sep L t s v stand line) (λ u. closing L t s v stand (Closes L t s v stand closers.Next) (body_stays level line closers.Next) (λ b. (twin_next_word b).twin) (word_taken closers.Next refl twin_next_word))
 
-    twin_for : (at : Span) (level : Level) (line : Line) → Eats L t s v stand (for_ (suc deep) inner room at level line) (for_ (suc deeper) inner' room' at level line)
+    twin_for : (at : Span) (level : Level) (line : InLine) → Eats L t s v stand (for_ (suc deep) inner room at level line) (for_ (suc deeper) inner' room' at level line)
     unfolding for_
     twin_for at level line = twin_taking L t s v stand deep deeper rooms (followed L t s v stand twin_for_head (λ head. made L t s v stand (λ tail. k.For at head.0 head.1 head.2.0 head.2.1 head.2.2 tail.0 tail.1) (twin_for_tail level line)))
 
     twin_wend : (at : Span) (condition : Expr) (b : Block) → Eats L t s v stand (λ ts. and_then (take_token ts) (λ u. pure (k.While at condition b))) (λ ts. and_then (take_token ts) (λ u. pure (k.While at condition b)))
     twin_wend at condition b = twin_taking L t s v stand deep deeper rooms (given L t s v stand (k.While at condition b))
 
-    twin_while : (at : Span) (level : Level) (line : Line) → Eats L t s v stand (while_ (suc deep) inner room at level line) (while_ (suc deeper) inner' room' at level line)
+    twin_while : (at : Span) (level : Level) (line : InLine) → Eats L t s v stand (while_ (suc deep) inner room at level line) (while_ (suc deeper) inner' room' at level line)
     unfolding while_
     twin_while at level line = twin_taking L t s v stand deep deeper rooms (followed L t s v stand (twin_whole L t s v stand deep deeper rooms) (λ condition. followed L t s v stand (twin_sep L t s v stand line) (λ u. closing L t s v stand (Closes L t s v stand closers.Wend) (body_stays level line closers.Wend) (λ b. (twin_wend at condition b).twin) (word_taken closers.Wend refl (twin_wend at condition)))))
 
@@ -422,7 +422,7 @@ module _ (L : FaultKind → Type 0) (t : Token) (s v : List Token) (stand : Stan
     loop_gone : (at : Span) (one : Option Test) (b : Block) (rest : List Token) → Left L t s v stand rest × (closed closers.Loop rest ≡ true) → Gone L t s v (at_place L t s v stand) (loop_word (suc deep) at one b rest)
     loop_gone at one b rest d = subst (λ (ts : List Token). Gone L t s v (at_place L t s v stand) (loop_word (suc deep) at one b ts)) (sym (left_alone L t s v stand deep deeper rooms inner inner' room room' i closers.Loop refl b rest d)) (loop_eats at one b).gone
 
-    twin_do : (at : Span) (level : Level) (line : Line) → Eats L t s v stand (do_ (suc deep) inner room at level line) (do_ (suc deeper) inner' room' at level line)
+    twin_do : (at : Span) (level : Level) (line : InLine) → Eats L t s v stand (do_ (suc deep) inner room at level line) (do_ (suc deeper) inner' room' at level line)
     unfolding do_
     twin_do at level line = twin_taking L t s v stand deep deeper rooms (followed L t s v stand twin_any_test (λ one. followed L t s v stand (twin_sep L t s v stand line) (λ u. closing L t s v stand (Closes L t s v stand closers.Loop) (body_stays level line closers.Loop) (λ b. (loop_eats at one b).twin) (loop_gone at one))))
 
@@ -434,7 +434,7 @@ module _ (L : FaultKind → Type 0) (t : Token) (s v : List Token) (stand : Stan
     twin_is_case : (at : Span) → T L t s v stand (is_case (suc deep) at) (is_case (suc deeper) at)
     unfolding is_case
     twin_is_case at = chosen L t s v stand comparison_at (is_by (suc deep) at) (is_by (suc deeper) at) (λ odd. fails_by comparison_of None (λ n. refl) refl refl refl refl refl odd.u odd.why)
-        (stopped L t s v stand (λ ts. stops.Fault Expected) (λ ts. stops.Fault Expected)) (eats_is at)
+        (stopped L t s v stand (λ ts. read_errs.Fault Expected) (λ ts. read_errs.Fault Expected)) (eats_is at)
 
     twin_case_from : (low : Expr) → T L t s v stand (case_from (suc deep) low) (case_from (suc deeper) low)
     unfolding case_from
@@ -448,7 +448,7 @@ module _ (L : FaultKind → Type 0) (t : Token) (s v : List Token) (stand : Stan
     unfolding cases_ case_list case_turn
     twin_cases = twin_word L t s v stand w.KwElse refl (took L t s v stand cases.Else) (made L t s v stand (λ (all : List Case). cases.List all) (twin_list L t s v stand (one_case (suc deep)) (one_case (suc deeper)) twin_one_case (exact_leaves (exact_case deep)) (exact_leaves (exact_case deeper))))
 
-    stays_case_branch : (at : Span) (level : Level) (line : Line) → E L t s v stand (Closes L t s v stand closers.Cases) (case_branch (suc deep) inner room at level line) (case_branch (suc deeper) inner' room' at level line)
+    stays_case_branch : (at : Span) (level : Level) (line : InLine) → E L t s v stand (Closes L t s v stand closers.Cases) (case_branch (suc deep) inner room at level line) (case_branch (suc deeper) inner' room' at level line)
     unfolding case_branch
     stays_case_branch at level line = before L t s v stand (Closes L t s v stand closers.Cases) twin_cases (λ all. before L t s v stand (Closes L t s v stand closers.Cases) (twin_sep L t s v stand line) (λ u. stays_made L t s v stand (Closes L t s v stand closers.Cases) (Closes L t s v stand closers.Cases) (λ b. roll-CaseBranch (record { at = at; cases = all; body = b })) (body_stays level line closers.Cases) (λ b rest d. d)))
 
@@ -458,17 +458,17 @@ module _ (L : FaultKind → Type 0) (t : Token) (s v : List Token) (stand : Stan
     abbrev AfterCases : List CaseBranch → List Token → Type 0
     AfterCases x rest = Left L t s v stand rest × (sees_end w.KwSelect rest ≡ true)
 
-    abbrev found_case : ℕ → (Spot → Reader Stmt) → ℕ → Level → Line → List CaseBranch → Span → Reader (List CaseBranch × Bool)
+    abbrev found_case : ℕ → (Spot → Reader Stmt) → ℕ → Level → InLine → List CaseBranch → Span → Reader (List CaseBranch × Bool)
     found_case most reader depth level line found at = λ ts. and_then (case_branch most reader depth at level line ts) (λ b. pure (found ++ b ∷ [], true))
 
-    stays_found_case : (level : Level) (line : Line) (found : List CaseBranch) (at : Span) → E L t s v stand AnotherCase (found_case (suc deep) inner room level line found at) (found_case (suc deeper) inner' room' level line found at)
+    stays_found_case : (level : Level) (line : InLine) (found : List CaseBranch) (at : Span) → E L t s v stand AnotherCase (found_case (suc deep) inner room level line found at) (found_case (suc deeper) inner' room' level line found at)
     stays_found_case level line found at = stays_made L t s v stand (Closes L t s v stand closers.Cases) AnotherCase (λ (b : CaseBranch). (found ++ b ∷ [], true)) (stays_case_branch at level line) (λ b rest d. (refl, d))
 
-    stays_select_turn : (level : Level) (line : Line) (found : List CaseBranch) → E L t s v stand AnotherCase (select_turn (suc deep) inner room level line found) (select_turn (suc deeper) inner' room' level line found)
+    stays_select_turn : (level : Level) (line : InLine) (found : List CaseBranch) → E L t s v stand AnotherCase (select_turn (suc deep) inner room level line found) (select_turn (suc deeper) inner' room' level line found)
     unfolding select_turn
     stays_select_turn level line found = stays_word L t s v stand AnotherCase w.KwCase refl (stays_found_case level line found) (weak L t s v stand AnotherCase (given L t s v stand (found, false)))
 
-    case_last_by : (level : Level) (line : Line) (found : List CaseBranch) (rest : List Token) → Left L t s v stand rest → (b : Bool) → sees_word w.KwCase rest ≡ b → (if b then true else sees_end w.KwSelect rest) ≡ true
+    case_last_by : (level : Level) (line : InLine) (found : List CaseBranch) (rest : List Token) → Left L t s v stand rest → (b : Bool) → sees_word w.KwCase rest ≡ b → (if b then true else sees_end w.KwSelect rest) ≡ true
         → Gone L t s v (at_place L t s v stand) (select_turn (suc deep) inner room level line found rest) ⊎ Last L t s v stand AfterCases (select_turn (suc deep) inner room level line found rest)
     unfolding select_turn same_word
     case_last_by level line found rest left true is closes =
@@ -476,28 +476,28 @@ module _ (L : FaultKind → Type 0) (t : Token) (s v : List Token) (stand : Stan
         inl (rw is (subst (λ (ts : List Token). Gone L t s v (at_place L t s v stand) (found_case (suc deep) inner room level line found (place_at ts) (next ts))) (sym l.0) (stays_eaten L t s v stand AnotherCase (stays_found_case level line found (place_at (t ∷ s))))))
     case_last_by level line found rest left false is closes = rw is (inr (refl, (left, closes)))
 
-    shortens_case : (level : Level) (line : Line) → Shortens (select_turn (suc deep) inner room level line)
+    shortens_case : (level : Level) (line : InLine) → Shortens (select_turn (suc deep) inner room level line)
     unfolding select_turn
     shortens_case level line = shortens_word w.KwCase (λ at. case_branch (suc deep) inner room at level line) (λ at. ended_leaves (ended_case deep inner room i.Phrases i.inside level line at))
 
-    other_case : (level : Level) (line : Line) → Shortens (select_turn (suc deeper) inner' room' level line)
+    other_case : (level : Level) (line : InLine) → Shortens (select_turn (suc deeper) inner' room' level line)
     unfolding select_turn
     other_case level line = shortens_word w.KwCase (λ at. case_branch (suc deeper) inner' room' at level line) (λ at. ended_leaves (ended_case deeper inner' room' i.OtherPhrases i.other_inside level line at))
 
     no_last : (x : List CaseBranch) (rest : List Token) → AnotherCase (x, false) rest → AfterCases x rest
     no_last x rest d = let bad : false ≡ true = d.0 in cc
 
-    stays_cases : (level : Level) (line : Line) → E L t s v stand AfterCases (case_branches (suc deep) inner room level line) (case_branches (suc deeper) inner' room' level line)
+    stays_cases : (level : Level) (line : InLine) → E L t s v stand AfterCases (case_branches (suc deep) inner room level line) (case_branches (suc deeper) inner' room' level line)
     unfolding case_branches
     stays_cases level line = stays_all L t s v stand AfterCases AnotherCase (select_turn (suc deep) inner room level line) (select_turn (suc deeper) inner' room' level line) (shortens_case level line) (stays_select_turn level line) no_last
         (λ x rest d. case_last_by level line x rest d.1.0 (sees_word w.KwCase rest) refl d.1.1) (other_case level line) []
 
-    twin_select : (at : Span) (level : Level) (line : Line) → Eats L t s v stand (select (suc deep) inner room at level line) (select (suc deeper) inner' room' at level line)
+    twin_select : (at : Span) (level : Level) (line : InLine) → Eats L t s v stand (select (suc deep) inner room at level line) (select (suc deeper) inner' room' at level line)
     unfolding select
     twin_select at level line = twin_taking L t s v stand deep deeper rooms (followed L t s v stand (twin_expect_word L t s v stand w.KwCase refl) (λ u. followed L t s v stand (twin_whole L t s v stand deep deeper rooms) (λ value. followed L t s v stand (twin_sep L t s v stand line)
         (λ x. closing L t s v stand AfterCases (stays_cases level line) (λ all. made L t s v stand (λ end. k.Select at value all end) (twin_end_of w.KwSelect refl)) (λ all rest d. end_of_gone w.KwSelect refl (λ y. k.Select at value all y) rest d.0 d.1)))))
 
-    twin_scope : (at : Span) (level : Level) (line : Line) → Eats L t s v stand (scope (suc deep) inner room at level line) (scope (suc deeper) inner' room' at level line)
+    twin_scope : (at : Span) (level : Level) (line : InLine) → Eats L t s v stand (scope (suc deep) inner room at level line) (scope (suc deeper) inner' room' at level line)
     unfolding scope
     twin_scope at level line = twin_taking L t s v stand deep deeper rooms (followed L t s v stand (twin_sep L t s v stand line)
         (λ u. closing L t s v stand (Closes L t s v stand closers.Scope) (body_stays level line closers.Scope) (λ b. made L t s v stand (λ x. k.Scope at b) (twin_end_of w.KwScope refl)) (λ b rest d. end_of_gone w.KwScope refl (λ y. k.Scope at b) rest d.0 d.1)))
@@ -547,7 +547,7 @@ module _ (L : FaultKind → Type 0) (t : Token) (s v : List Token) (stand : Stan
     led_near x spot leads.If is ts us f al = (stays_if_ x.at spot.level spot.line).near ts us al
     led_near x spot (leads.Call which) is ts us f al = let c = call_kind spot.level x.kind which is in inl (called_near L t s v stand deep deeper rooms x.at x c.0 which c.1 c.2 ts us f al)
     led_near x spot leads.Value is ts us f al = inl ((twin_valued L t s v stand deep deeper rooms x.at).near ts us al)
-    led_near x spot leads.Nothing is ts us f al = inl (inr (stops.Fault (astray spot.other us), us, refl, al))
+    led_near x spot leads.Nothing is ts us f al = inl (inr (read_errs.Fault (astray spot.other us), us, refl, al))
 
     -- a token that a statement begins with is taken
     led_gone : (spot : Spot) (lead : Lead) → lead_of spot.level t.kind ≡ lead → L DeepNesting → Gone L t s v (at_place L t s v stand) (led (suc deep) inner room t.at spot lead (t ∷ s)) ⊎ (lead ≡ leads.Nothing)
@@ -573,7 +573,7 @@ module _ (L : FaultKind → Type 0) (t : Token) (s v : List Token) (stand : Stan
     led_gone spot leads.Nothing is loose = inr refl
 
     statement_near : (spot : Spot) (ts us : List Token) → Both L t s v stand ts us → (o : Option Token) → first ts ≡ o → NearOrStays L t s v stand (Rests L t s v stand) (statement_at (suc deep) inner room spot o ts) (statement_at (suc deeper) inner' room' spot o us)
-    statement_near spot ts us al None is = inl (inr (stops.Fault Expected, us, refl, al))
+    statement_near spot ts us al None is = inl (inr (read_errs.Fault Expected, us, refl, al))
     statement_near spot ts us al (Some x) is = led_near x spot (lead_of spot.level x.kind) refl ts us is al
 
     statement_leaves : (spot : Spot) (ts : List Token) (o : Option Token) → Leaves ts (statement_at (suc deep) inner room spot o ts)
@@ -600,7 +600,7 @@ module _ (L : FaultKind → Type 0) (t : Token) (s v : List Token) (stand : Stan
     ended_near : (spot : Spot) (lead other : Lead) (at : Span) → other ≡ leads.Nothing → Gone L t s v (at_place L t s v stand) (led (suc deep) inner room t.at spot lead (t ∷ s)) ⊎ (lead ≡ leads.Nothing)
         → Near L t s v (at_place L t s v stand) (led (suc deep) inner room t.at spot lead (t ∷ s)) (led (suc deeper) inner' room' at spot other v)
     ended_near spot lead other at is (inl gone) = inl gone
-    ended_near spot lead other at is (inr none) = rw (none, is) (inr (stops.Fault (astray spot.other v), v, refl, here))
+    ended_near spot lead other at is (inr none) = rw (none, is) (inr (read_errs.Fault (astray spot.other v), v, refl, here))
 
     statement_odd : (spot : Spot) (u : Token) → first v ≡ Some u → Refused L t u ⊎ Ended L u → Near L t s v (at_place L t s v stand) (statement (suc deep) inner room spot (t ∷ s)) (statement (suc deeper) inner' room' spot v)
     unfolding statement first
@@ -619,20 +619,20 @@ module _ (L : FaultKind → Type 0) (t : Token) (s v : List Token) (stand : Stan
 
   -- ---- statements of each depth
 
-  no_room_near : (spot : Spot) (ts us : List Token) (other : Outcome Stmt) → L DeepNesting → (lead : Lead) → (lead ≡ leads.Nothing → Near L t s v (at_place L t s v stand) {A = Stmt} (Err (stops.Fault (astray spot.other ts), ts)) other)
-      → Near L t s v (at_place L t s v stand) (Err (stops.Fault (deep_by spot ts lead), ts)) other
+  no_room_near : (spot : Spot) (ts us : List Token) (other : Outcome Stmt) → L DeepNesting → (lead : Lead) → (lead ≡ leads.Nothing → Near L t s v (at_place L t s v stand) {A = Stmt} (Err (read_errs.Fault (astray spot.other ts), ts)) other)
+      → Near L t s v (at_place L t s v stand) (Err (read_errs.Fault (deep_by spot ts lead), ts)) other
   no_room_near spot ts us other loose leads.Nothing none = none refl
   no_room_near spot ts us other loose lead none = inl (inr loose)
 
-  astray_near : (spot : Spot) (ts us : List Token) (q : ℕ) (at : Span) (lead : Lead) → Both L t s v stand ts us → lead ≡ leads.Nothing → Near L t s v (at_place L t s v stand) {A = Stmt} (Err (stops.Fault (astray spot.other ts), ts)) (led (suc deeper) (stmt (suc deeper) q) q at spot lead us)
-  astray_near spot ts us q at lead al is = rw is (inr (stops.Fault (astray spot.other us), us, refl, al))
+  astray_near : (spot : Spot) (ts us : List Token) (q : ℕ) (at : Span) (lead : Lead) → Both L t s v stand ts us → lead ≡ leads.Nothing → Near L t s v (at_place L t s v stand) {A = Stmt} (Err (read_errs.Fault (astray spot.other ts), ts)) (led (suc deeper) (stmt (suc deeper) q) q at spot lead us)
+  astray_near spot ts us q at lead al is = rw is (inr (read_errs.Fault (astray spot.other us), us, refl, al))
 
-  no_room_by : (spot : Spot) (ts us : List Token) (q : ℕ) → Both L t s v stand ts us → L DeepNesting → (o : Option Token) → Near L t s v (at_place L t s v stand) (Err (stops.Fault (deep_at spot ts o), ts)) (statement_at (suc deeper) (stmt (suc deeper) q) q spot o us)
-  no_room_by spot ts us q al loose None = inr (stops.Fault Expected, us, refl, al)
+  no_room_by : (spot : Spot) (ts us : List Token) (q : ℕ) → Both L t s v stand ts us → L DeepNesting → (o : Option Token) → Near L t s v (at_place L t s v stand) (Err (read_errs.Fault (deep_at spot ts o), ts)) (statement_at (suc deeper) (stmt (suc deeper) q) q spot o us)
+  no_room_by spot ts us q al loose None = inr (read_errs.Fault Expected, us, refl, al)
   no_room_by spot ts us q al loose (Some x) =
       no_room_near spot ts us (led (suc deeper) (stmt (suc deeper) q) q x.at spot (lead_of spot.level x.kind) us) loose (lead_of spot.level x.kind) (λ is. astray_near spot ts us q x.at (lead_of spot.level x.kind) al is)
 
-  deep_extra : (spot : Spot) (lead : Lead) → Ends L → spot.other ≡ ExtraText → Gone L t s v (at_place L t s v stand) {A = Stmt} (Err (stops.Fault (deep_by spot (t ∷ s) lead), t ∷ s))
+  deep_extra : (spot : Spot) (lead : Lead) → Ends L → spot.other ≡ ExtraText → Gone L t s v (at_place L t s v stand) {A = Stmt} (Err (read_errs.Fault (deep_by spot (t ∷ s) lead), t ∷ s))
   deep_extra spot leads.Nothing ends other = extra_astray L t s v stand deep deeper rooms Stmt spot.other ends other
   deep_extra spot lead ends other = inr ends.deep
 
@@ -657,7 +657,7 @@ module _ (L : FaultKind → Type 0) (t : Token) (s v : List Token) (stand : Stan
 
   both_no_room : (spot : Spot) → T L t s v stand (stmt (suc deep) zero spot) (stmt (suc deeper) zero spot)
   unfolding stmt no_room
-  both_no_room spot = stopped L t s v stand (λ ts. stops.Fault (deep_at spot ts (first ts))) (λ ts. stops.Fault (deep_at spot ts (first ts)))
+  both_no_room spot = stopped L t s v stand (λ ts. read_errs.Fault (deep_at spot ts (first ts))) (λ ts. read_errs.Fault (deep_at spot ts (first ts)))
 
   end_lead : (level : Level) (kind : TokenKind) → is_word w.KwEnd kind ≡ true → lead_of level kind ≡ leads.End
   end_lead level kind is = ap (lead_of level) (word_is w.KwEnd kind is)

@@ -24,7 +24,7 @@ use Rattle.fb_ast.specs.declared.part.ProcedureKind.TheVariants as kind
 use Rattle.fb_ast.specs.declared.stmt.Block.{Block}
 use Rattle.fb_ast.specs.declared.stmt.Stmt.{Stmt}
 use Rattle.fb_ast.specs.declared.stmt.Stmt.TheVariants as k
-use Rattle.parse_expr.specs.declared.stop.Stop.TheVariants as stops
+use Rattle.parse_expr.specs.declared.error.ReadErr.TheVariants as read_errs
 use Rattle.parse_expr.specs.Expr.{place_or}
 use Rattle.parse_expr.specs.Reading.{first, next, same_word, is_mark, is_word, holds, sees, sees_word, expect, expect_word, refusal, Outcome, Reader, and_then, pure, take_token}
 use Rattle.parse_expr.specs.Types.{type_name, name, name_by}
@@ -33,7 +33,7 @@ use Rattle.parse_expr.proofs.Ends.{Suffixes, same_end, no_longer, Leaves}
 use Rattle.parse_expr.proofs.Refused.{nowhere}
 use Rattle.parse_expr.proofs.Twins.{Rooms, here, there, Gone, Near, ErrAt, twin_test, gone_then, past, eaten}
 use Rattle.parse_parts.specs.declared.kinds.Level.TheVariants as levels
-use Rattle.parse_parts.specs.declared.kinds.Line.TheVariants as lines
+use Rattle.parse_parts.specs.declared.kinds.InLine.TheVariants as lines
 use Rattle.parse_parts.specs.declared.kinds.Spot.{Spot}
 use Rattle.parse_parts.specs.declared.kinds.Lead.TheVariants as leads
 use Rattle.parse_parts.specs.declared.kinds.Closer.{Closer}
@@ -118,15 +118,15 @@ module _ (L : FaultKind → Type 0) (t : Token) (s v : List Token) (stand : Stan
 
   name_by_fails : (at : Span) (kind : TokenKind) (ts : List Token) → is_name kind ≡ false → ErrAt (name_by at kind ts) ts
   name_by_fails at (kinds.Name text) ts is = cc
-  name_by_fails at kind ts is = record { stop = stops.Fault Expected; is = refl }
+  name_by_fails at kind ts is = record { stop = read_errs.Fault Expected; is = refl }
 
   word_fails : (ts : List Token) → Idle ts → (which : Word) → is_odd_word which ≡ false → ErrAt (expect_word which ts) ts
   unfolding expect_word sees_word
-  word_fails ts i which plain = rw (i.is, i.word which plain) (record { stop = stops.Fault Expected; is = refl })
+  word_fails ts i which plain = rw (i.is, i.word which plain) (record { stop = read_errs.Fault Expected; is = refl })
 
   mark_fails : (ts : List Token) → Idle ts → ErrAt (operator_mark ts) ts
   unfolding operator_mark
-  mark_fails ts i = rw (i.is, i.operator) (record { stop = stops.Fault Expected; is = refl })
+  mark_fails ts i = rw (i.is, i.operator) (record { stop = read_errs.Fault Expected; is = refl })
 
   name_fails : (ts : List Token) → Idle ts → ErrAt (name ts) ts
   unfolding name
@@ -158,7 +158,7 @@ module _ (L : FaultKind → Type 0) (t : Token) (s v : List Token) (stand : Stan
   name_by_stops : (at : Span) (kind : TokenKind) → Stopped (name_by at kind (t ∷ s))
   unfolding next
   name_by_stops at (kinds.Name text) = inl (omega arith)
-  name_by_stops at kind = inr (record { stop = stops.Fault Expected; is = refl })
+  name_by_stops at kind = inr (record { stop = read_errs.Fault Expected; is = refl })
 
   name_stops : Stopped (name (t ∷ s))
   unfolding name first
@@ -166,7 +166,7 @@ module _ (L : FaultKind → Type 0) (t : Token) (s v : List Token) (stand : Stan
 
   mark_by_stops : (o : Option Binary) → Stopped (mark_by o (t ∷ s))
   unfolding next
-  mark_by_stops None = inr (record { stop = stops.Fault Expected; is = refl })
+  mark_by_stops None = inr (record { stop = read_errs.Fault Expected; is = refl })
   mark_by_stops (Some which) = inl (omega arith)
 
   mark_stops : Stopped (operator_mark (t ∷ s))
@@ -278,7 +278,7 @@ module _ (L : FaultKind → Type 0) (t : Token) (s v : List Token) (stand : Stan
 
   twin_operator_mark : T L t s v stand operator_mark operator_mark
   unfolding operator_mark
-  twin_operator_mark = chosen L t s v stand operator_at mark_by mark_by (λ odd. fails_by operator_of None (λ n. refl) refl refl refl refl refl odd.u odd.why) (stopped L t s v stand (λ ts. stops.Fault Expected) (λ ts. stops.Fault Expected)) (λ which. took L t s v stand which)
+  twin_operator_mark = chosen L t s v stand operator_at mark_by mark_by (λ odd. fails_by operator_of None (λ n. refl) refl refl refl refl refl odd.u odd.why) (stopped L t s v stand (λ ts. read_errs.Fault Expected) (λ ts. read_errs.Fault Expected)) (λ which. took L t s v stand which)
 
   mark_near : {A : Type 0} (f g : Binary → Reader A) → ((which : Binary) (rest : List Token) → Leaves rest (f which rest)) → Odd L t v → Near L t s v (at_place L t s v stand) (and_then (operator_mark (t ∷ s)) f) (and_then (operator_mark v) g)
   mark_near f g l odd = halted L t s v stand _ _ (halts_then L t s v stand (operator_mark (t ∷ s)) f mark_stops l) (err_on v (operator_mark v) g (mark_fails v (idle_other odd)))
@@ -411,7 +411,7 @@ module _ (L : FaultKind → Type 0) (t : Token) (s v : List Token) (stand : Stan
     -- ---- Types
 
     abbrev other_member : ℕ → Reader Member
-    other_member most = λ ts. if sees_name ts then field most ts else Err (stops.Fault (refusal ts), ts)
+    other_member most = λ ts. if sees_name ts then field most ts else Err (read_errs.Fault (refusal ts), ts)
 
     abbrev field_behind : ℕ → Name → Reader Member
     field_behind most n = λ ts. and_then (any_bounds most ts) (λ b us. and_then (expect_word w.KwAs us) (λ u vs. and_then (type_name vs) (λ ty. pure (member.Field n b ty))))
@@ -440,7 +440,7 @@ module _ (L : FaultKind → Type 0) (t : Token) (s v : List Token) (stand : Stan
     field_gone is = gone_then L t s v (at_place L t s v stand) (name (t ∷ s)) (field_behind (suc deep)) (name_taken L t s v stand deep deeper rooms is) (λ n. (twin_field_behind n).leaves)
 
     twin_other_member : T L t s v stand (other_member (suc deep)) (other_member (suc deeper))
-    twin_other_member = twin_at_name L t s v stand deep deeper rooms twin_field (stopped L t s v stand (λ ts. stops.Fault (refusal ts)) (λ ts. stops.Fault (refusal ts))) field_gone
+    twin_other_member = twin_at_name L t s v stand deep deeper rooms twin_field (stopped L t s v stand (λ ts. read_errs.Fault (refusal ts)) (λ ts. read_errs.Fault (refusal ts))) field_gone
 
     abbrev member_by : ℕ → Option Token → Reader Member
     member_by most o = λ ts. if holds (is_word w.KwDeclare) o then declared_member (place_or origin o) (next ts) else other_member most ts
@@ -464,11 +464,11 @@ module _ (L : FaultKind → Type 0) (t : Token) (s v : List Token) (stand : Stan
         (λ odd. member_odd odd.u odd.why)
 
     abbrev has_one : List Member → Reader (List Member × Bool)
-    has_one found = λ ts. if has_field found then Ok ((found, false), ts) else Err (stops.Fault Expected, ts)
+    has_one found = λ ts. if has_field found then Ok ((found, false), ts) else Err (read_errs.Fault Expected, ts)
 
-    twin_has_field : (found : List Member) (b : Bool) → T L t s v stand {A = List Member × Bool} (λ ts. if b then Ok ((found, false), ts) else Err (stops.Fault Expected, ts)) (λ ts. if b then Ok ((found, false), ts) else Err (stops.Fault Expected, ts))
+    twin_has_field : (found : List Member) (b : Bool) → T L t s v stand {A = List Member × Bool} (λ ts. if b then Ok ((found, false), ts) else Err (read_errs.Fault Expected, ts)) (λ ts. if b then Ok ((found, false), ts) else Err (read_errs.Fault Expected, ts))
     twin_has_field found true = given L t s v stand (found, false)
-    twin_has_field found false = stopped L t s v stand (λ ts. stops.Fault Expected) (λ ts. stops.Fault Expected)
+    twin_has_field found false = stopped L t s v stand (λ ts. read_errs.Fault Expected) (λ ts. read_errs.Fault Expected)
 
     abbrev another : ℕ → List Member → Reader (List Member × Bool)
     another most found = λ ts. and_then (one_member most ts) (ended_member found)
@@ -486,7 +486,7 @@ module _ (L : FaultKind → Type 0) (t : Token) (s v : List Token) (stand : Stan
 
     other_fails : (u : Token) → first v ≡ Some u → Ended L u → ErrAt (other_member (suc deeper) v) v
     unfolding sees_name
-    other_fails u is e = rw (is, by_end is_name false refl refl u.kind e.end) (record { stop = stops.Fault (refusal v); is = refl })
+    other_fails u is e = rw (is, by_end is_name false refl refl u.kind e.end) (record { stop = read_errs.Fault (refusal v); is = refl })
 
     member_fails : (u : Token) → first v ≡ Some u → Ended L u → ErrAt (one_member (suc deeper) v) v
     unfolding one_member sees_word
@@ -496,7 +496,7 @@ module _ (L : FaultKind → Type 0) (t : Token) (s v : List Token) (stand : Stan
     another_fails found u is e = err_on v (one_member (suc deeper) v) (ended_member found) (member_fails u is e)
 
     has_by : (found : List Member) (b : Bool) → Ends L → AtEnd L t s v stand → (other : Outcome (List Member × Bool)) → ErrAt other v
-        → NearOrStays L t s v stand LastMember (if b then Ok ((found, false), t ∷ s) else Err (stops.Fault Expected, t ∷ s)) other
+        → NearOrStays L t s v stand LastMember (if b then Ok ((found, false), t ∷ s) else Err (read_errs.Fault Expected, t ∷ s)) other
     has_by found true ends end other e = inr (refl, (ends, refl, end))
     has_by found false ends end other e = inl (inr (e.stop, v, e.is, here))
 

@@ -3,8 +3,8 @@ use Rattle.std.proofs.Common.{◌≡◌, ◌≢◌, Result, Ok, Err, sym, ◌∙
 use Rattle.std.specs.Prelude.{IfOk, IfErr}
 use Rattle.fb_lexer.specs.TokenList.{TokenList}
 use Rattle.fb_ast.specs.declared.tree.Tree.{Tree}
-use Rattle.parse_expr.specs.declared.stop.ParseErr.{ParseErr}
-use Rattle.parse_expr.specs.declared.stop.ParseErr.TheVariants as errors
+use Rattle.parse_expr.specs.declared.error.ParseErr.{ParseErr}
+use Rattle.parse_expr.specs.declared.error.ParseErr.TheVariants as errors
 use Rattle.parse_expr.specs.Expr.{Answers}
 use Rattle.parse_stmt.specs.Module.{tree_of}
 use Rattle.parse_stmt.specs.Texts.{IsText}

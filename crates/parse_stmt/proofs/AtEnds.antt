@@ -11,7 +11,7 @@ use Rattle.fb_lexer.specs.declared.token.Mark.TheVariants.{At, Minus, Equal, Com
 use Rattle.fb_lexer.specs.declared.word.Word.{Word}
 use Rattle.fb_lexer.specs.declared.word.Word.TheVariants as w
 use Rattle.fb_ast.specs.declared.ty.Base.{Base}
-use Rattle.parse_expr.specs.declared.stop.Stop.TheVariants as stops
+use Rattle.parse_expr.specs.declared.error.ReadErr.TheVariants as read_errs
 use Rattle.parse_expr.specs.Reading.{first, next, holds, sees, sees_word, expect, expect_word, refusal, Outcome, Reader, and_then, pure, stop, take_token}
 use Rattle.parse_expr.specs.Types.{type_from, type_at, type_name, name_by, name_at, name}
 use Rattle.parse_expr.specs.Expr.{expr, Measured}
@@ -19,8 +19,8 @@ use Rattle.parse_expr.specs.Faults.{is_refused_kind}
 use Rattle.parse_expr.proofs.Refused.{nowhere, refusals}
 use Rattle.parse_expr.proofs.Fills.{Failed, FaultOf, Next, failed_pure, map_failed}
 use Rattle.parse_expr.proofs.Begun.{begun}
-use Rattle.parse_expr.proofs.Rowed.{NoRoom, Whole}
-use Rattle.parse_parts.specs.declared.kinds.Line.{Line}
+use Rattle.parse_expr.proofs.Completed.{NoRoom, Whole}
+use Rattle.parse_parts.specs.declared.kinds.InLine.{InLine}
 use Rattle.parse_parts.specs.Steps.{here, kind_or, astray, extra, sees_sep, sep, whole, place, pass_by, no_value, sees_value, any_value, value_behind, initial, sees_name, any_name, any_type, Turn, repeat, all_of, comma_behind}
 
 -- the next token isn't a word that this profile doesn't have
@@ -121,7 +121,7 @@ e_here = record { at = λ ts. tt }
 pub e_stop : {A : Type 0} → Early {A = A} (stop Expected)
 e_stop = record { at = λ ts. expected_end ts }
 
-pub e_refuse : {A : Type 0} → Early {A = A} (λ ts. Err (stops.Fault (refusal ts), ts))
+pub e_refuse : {A : Type 0} → Early {A = A} (λ ts. Err (read_errs.Fault (refusal ts), ts))
 e_refuse = record { at = λ ts. refusal_end ts }
 
 pub e_choose : {A : Type 0} (test : List Token → Bool) {p q : Reader A} → Early p → Early q → Early (λ ts. if test ts then p ts else q ts)
@@ -142,11 +142,11 @@ pub e_expect_word : (word : Word) → Early (expect_word word)
 unfolding expect_word
 e_expect_word word = record { at = λ ts. test_end (sees_word word ts) _ _ (tt) (expected_end ts) }
 
-pub e_sep : (line : Line) → Early (sep line)
+pub e_sep : (line : InLine) → Early (sep line)
 unfolding sep
 e_sep line = record { at = λ ts. test_end (sees_sep line ts) _ _ (tt) (extra_end ts) }
 
--- ---- rows of things
+-- ---- series of things
 
 pub more_end : {A : Type 0} (b : Bool) {p q : Reader A} → Early p → Early q → Early (if b then p else q)
 more_end true x y = x

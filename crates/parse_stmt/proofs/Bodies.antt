@@ -1,4 +1,4 @@
--- Blocks, and the rows of one-line Ifs, are read exactly.
+-- Blocks, and the series of one-line Ifs, are read exactly.
 use Rattle.std.proofs.Common.{◌≡◌, ◌<◌, ℕ, zero, suc, ◌+◌, ◌==◌, Bool, true, false, if◌then◌else◌, List, [], ◌∷◌, ◌++◌, length, Some, Ok, refl, sym, ap, ◌∙◌, arith, append_assoc, append-nil}
 use Rattle.fb_base.specs.declared.fault.FaultKind.{FaultKind}
 use Rattle.fb_base.specs.declared.fault.FaultKind.TheVariants.{ExtraText}
@@ -13,7 +13,7 @@ use Rattle.parse_expr.specs.Reading.{first, next, sees_word, Reader, Outcome, an
 use Rattle.parse_expr.proofs.Sound.{Done, bind, by_test, map_done}
 use Rattle.parse_expr.proofs.Ends.{Suffixes, no_longer}
 use Rattle.parse_parts.specs.declared.kinds.Level.{Level}
-use Rattle.parse_parts.specs.declared.kinds.Line.{Line}
+use Rattle.parse_parts.specs.declared.kinds.InLine.{InLine}
 use Rattle.parse_parts.specs.declared.kinds.Spot.{Spot}
 use Rattle.parse_parts.specs.declared.kinds.Closer.{Closer}
 use Rattle.parse_parts.specs.declared.kinds.Closer.TheVariants as closers
@@ -22,7 +22,7 @@ use Rattle.parse_parts.specs.Steps.{place_at, last_before, sees_sep, repeat, all
 use Rattle.parse_parts.specs.Steps as steps
 use Rattle.parse_stmt.specs.Blocks.{sees_end, closed, deep_end, end_is_deep, block_stmt, ended, block_turn, block, body}
 use Rattle.parse_stmt.specs.Phrases.{Phrase}
-use Rattle.parse_stmt.specs.Statements.{Statements, none, blank, some, Row, last, another}
+use Rattle.parse_stmt.specs.Statements.{Statements, none, blank, some, Series, last, another}
 use Rattle.parse_stmt.specs.Statements as grammar
 use Rattle.parse_stmt.proofs.Exact.{next_kind, Exact, same_end, end_of_end, leave_next}
 use Rattle.parse_stmt.proofs.Smallest.{exact_here, word_is}
@@ -31,27 +31,27 @@ use Rattle.parse_stmt.proofs.Ended.{Ended, as_ended, ended_then, ended_gives}
 
 -- ---- what ends a block
 
-sep_kind : (line : Line) (kind : TokenKind) → is_sep line kind ≡ true → closes (Some kind) ≡ true
+sep_kind : (line : InLine) (kind : TokenKind) → is_sep line kind ≡ true → closes (Some kind) ≡ true
 sep_kind line kinds.Colon is = refl
 sep_kind line kinds.LineEnd is = refl
 sep_kind line kind is = cc
 
-pub sep_closes : (line : Line) (ts : List Token) → sees_sep line ts ≡ true → closes (next_kind ts) ≡ true
+pub sep_closes : (line : InLine) (ts : List Token) → sees_sep line ts ≡ true → closes (next_kind ts) ≡ true
 unfolding sees_sep first
 sep_closes line [] is = cc
 sep_closes line (t ∷ ts) is = sep_kind line t.kind is
 
-pub sep_less : (line : Line) (ts : List Token) → sees_sep line ts ≡ true → length (next ts) < length ts
+pub sep_less : (line : InLine) (ts : List Token) → sees_sep line ts ≡ true → length (next ts) < length ts
 unfolding sees_sep first next
 sep_less line [] is = cc
 sep_less line (t ∷ ts) is = omega arith
 
-pub word_no_sep : (line : Line) (which : Word) (ts : List Token) → sees_word which ts ≡ true → sees_sep line ts ≡ false
+pub word_no_sep : (line : InLine) (which : Word) (ts : List Token) → sees_word which ts ≡ true → sees_sep line ts ≡ false
 unfolding sees_sep first sees_word
 word_no_sep line which [] is = cc
 word_no_sep line which (t ∷ ts) is = rw (word_is which t.kind is) refl
 
-by_end : (line : Line) (which : Word) (ts : List Token) (b : Bool) → sees_word w.KwEnd ts ≡ b → (if b then sees_word which (next ts) else false) ≡ true → sees_sep line ts ≡ false
+by_end : (line : InLine) (which : Word) (ts : List Token) (b : Bool) → sees_word w.KwEnd ts ≡ b → (if b then sees_word which (next ts) else false) ≡ true → sees_sep line ts ≡ false
 by_end line which ts true is closes_it = word_no_sep line w.KwEnd ts is
 by_end line which ts false is closes_it = cc
 
@@ -59,11 +59,11 @@ one_or : (a b c : Bool) → (a ≡ true → c ≡ false) → (b ≡ true → c �
 one_or true b c one other is = one refl
 one_or false b c one other is = other is
 
-end_no_sep : (line : Line) (which : Word) (ts : List Token) → sees_end which ts ≡ true → sees_sep line ts ≡ false
+end_no_sep : (line : InLine) (which : Word) (ts : List Token) → sees_end which ts ≡ true → sees_sep line ts ≡ false
 unfolding sees_end
 end_no_sep line which ts is = by_end line which ts (sees_word w.KwEnd ts) refl is
 
-closed_no_sep : (closer : Closer) (line : Line) (ts : List Token) → closed closer ts ≡ true → sees_sep line ts ≡ false
+closed_no_sep : (closer : Closer) (line : InLine) (ts : List Token) → closed closer ts ≡ true → sees_sep line ts ≡ false
 closed_no_sep closers.Next line ts is = word_no_sep line w.KwNext ts is
 closed_no_sep closers.Wend line ts is = word_no_sep line w.KwWend ts is
 closed_no_sep closers.Loop line ts is = word_no_sep line w.KwLoop ts is
@@ -83,17 +83,17 @@ closed_no_sep closers.Operator line ts is = end_no_sep line w.KwOperator ts is
 
 -- what a statement's first token is not
 pub record Opens (ts : List Token) : Type 0 where
-  pub no_sep : (line : Line) → sees_sep line ts ≡ false
+  pub no_sep : (line : InLine) → sees_sep line ts ≡ false
   pub not_closed : (closer : Closer) → closed closer ts ≡ false
 
 -- The statements inside are read exactly; none stands where nothing may be deep enough.
-pub record Inside (inner : Spot → Reader Stmt) (room : ℕ) (Inner : Level → Line → Phrase Stmt) : Type 0 where
-  pub exact : (level : Level) (line : Line) (other : FaultKind) → Exact (inner (record { level = level; line = line; other = other })) (Inner level line) closes
-  pub opens : (level : Level) (line : Line) (ts : List Token) (x : Stmt) (rest : List Token) → Inner level line ts x rest → closes (next_kind rest) ≡ true → Opens ts
-  pub deep : (level : Level) (line : Line) (ts : List Token) (x : Stmt) (rest : List Token) → Inner level line ts x rest → (room == 0) ≡ false
+pub record Inside (inner : Spot → Reader Stmt) (room : ℕ) (Inner : Level → InLine → Phrase Stmt) : Type 0 where
+  pub exact : (level : Level) (line : InLine) (other : FaultKind) → Exact (inner (record { level = level; line = line; other = other })) (Inner level line) closes
+  pub opens : (level : Level) (line : InLine) (ts : List Token) (x : Stmt) (rest : List Token) → Inner level line ts x rest → closes (next_kind rest) ≡ true → Opens ts
+  pub deep : (level : Level) (line : InLine) (ts : List Token) (x : Stmt) (rest : List Token) → Inner level line ts x rest → (room == 0) ≡ false
 
-module _ (deep : ℕ) (inner : Spot → Reader Stmt) (room : ℕ) (Inner : Level → Line → Phrase Stmt) (inside : Inside inner room Inner) where
-  module _ (level : Level) (line : Line) (closer : Closer) where
+module _ (deep : ℕ) (inner : Spot → Reader Stmt) (room : ℕ) (Inner : Level → InLine → Phrase Stmt) (inside : Inside inner room Inner) where
+  module _ (level : Level) (line : InLine) (closer : Closer) where
     abbrev turns_from : ℕ → List Stmt × Bool → Reader (List Stmt)
     turns_from n q = if q.1 then repeat (block_turn (suc deep) inner room level line closer) n q.0 else pure q.0
 

@@ -6,10 +6,10 @@ use Rattle.fb_base.specs.declared.fault.FaultKind.TheVariants.{DeepNesting, Expe
 use Rattle.fb_lexer.specs.TokenList.{TokenList}
 use Rattle.fb_lexer.specs.declared.token.Token.{Token}
 use Rattle.fb_ast.specs.declared.tree.Tree.{Tree}
-use Rattle.parse_expr.specs.declared.stop.Stop.{Stop}
-use Rattle.parse_expr.specs.declared.stop.Stop.TheVariants as stops
-use Rattle.parse_expr.specs.declared.stop.ParseErr.{ParseErr}
-use Rattle.parse_expr.specs.declared.stop.ParseErr.TheVariants as errors
+use Rattle.parse_expr.specs.declared.error.ReadErr.{ReadErr}
+use Rattle.parse_expr.specs.declared.error.ReadErr.TheVariants as read_errs
+use Rattle.parse_expr.specs.declared.error.ParseErr.{ParseErr}
+use Rattle.parse_expr.specs.declared.error.ParseErr.TheVariants as errors
 use Rattle.parse_expr.specs.Reading.{first, Outcome}
 use Rattle.parse_expr.specs.Expr.{error_of}
 use Rattle.parse_expr.proofs.Ends.{Suffixes}
@@ -46,7 +46,7 @@ first_is t more = refl
 pub deeper_by : (n : ℕ) → 200 + n ≡ suc (199 + n)
 deeper_by n = omega arith
 
-module _ (front s : List Token) (t : Token) (kind : FaultKind) (is : module_ 200 199 (front ++ t ∷ s) ≡ Err (stops.Fault kind, t ∷ s)) where
+module _ (front s : List Token) (t : Token) (kind : FaultKind) (is : module_ 200 199 (front ++ t ∷ s) ≡ Err (read_errs.Fault kind, t ∷ s)) where
   clashes : (L : FaultKind → Type 0) (deep room : ℕ) → Rooms L 200 (suc deep) → Rooms L 199 room → ((u : Token) → Ended L u → 199 ≡ room) → (L kind → ⊥) → (more : List Token) (last_line : ℕ) (tree : Tree) → IsTextWithin (suc deep) room (front ++ t ∷ more) last_line tree → ⊥
   clashes L deep room rooms depths even never more last_line tree text =
       let place = at_place L t s (t ∷ more) (inl (first_is t more)) in
@@ -69,18 +69,18 @@ abbrev kind_in : FaultKind → ParseErr → FaultKind
 kind_in other errors.NoMemory = other
 kind_in other (errors.Fault fault) = fault.kind
 
-fault_kind : (tokens : List Token) (fault : Fault) (kind : FaultKind) (rest : List Token) → error_of tokens (stops.Fault kind) rest ≡ errors.Fault fault → kind ≡ fault.kind
+fault_kind : (tokens : List Token) (fault : Fault) (kind : FaultKind) (rest : List Token) → error_of tokens (read_errs.Fault kind) rest ≡ errors.Fault fault → kind ≡ fault.kind
 fault_kind tokens fault kind rest is = ap (kind_in kind) is
 
-not_read : (p : Stop × List Token) (x : Found) (r : List Token) → ◌≡◌ {A = Outcome Found} (Err p) (Ok (x, r)) → ⊥
+not_read : (p : ReadErr × List Token) (x : Found) (r : List Token) → ◌≡◌ {A = Outcome Found} (Err p) (Ok (x, r)) → ⊥
 not_read p x r is = cc
 
-pub at_rest : (tokens : TokenList) (kind : FaultKind) (rest : List Token) → module_ 200 199 tokens.items ≡ Err (stops.Fault kind, rest) → (e : Suffixes rest tokens.items) (t : Token) (behind : List Token) → rest ≡ t ∷ behind
-    → module_ 200 199 (e.front ++ t ∷ behind) ≡ Err (stops.Fault kind, t ∷ behind)
+pub at_rest : (tokens : TokenList) (kind : FaultKind) (rest : List Token) → module_ 200 199 tokens.items ≡ Err (read_errs.Fault kind, rest) → (e : Suffixes rest tokens.items) (t : Token) (behind : List Token) → rest ≡ t ∷ behind
+    → module_ 200 199 (e.front ++ t ∷ behind) ≡ Err (read_errs.Fault kind, t ∷ behind)
 at_rest tokens kind rest is e t behind rest_is =
-    ap (module_ 200 199) (ap (λ (xs : List Token). e.front ++ xs) (sym rest_is) ∙ sym e.is) ∙ is ∙ ap (λ (xs : List Token). Err (stops.Fault kind, xs)) rest_is
+    ap (module_ 200 199) (ap (λ (xs : List Token). e.front ++ xs) (sym rest_is) ∙ sym e.is) ∙ is ∙ ap (λ (xs : List Token). Err (read_errs.Fault kind, xs)) rest_is
 
-pub first_at : (tokens : TokenList) (fault : Fault) (kind : FaultKind) (rest : List Token) → module_ 200 199 tokens.items ≡ Err (stops.Fault kind, rest) → (e : Suffixes rest tokens.items) → Begins e.front → ((t : Token) (behind : List Token) → rest ≡ t ∷ behind → HasKind e.front t kind) → (rest ≡ [] → kind ≡ Expected) → error_of tokens.items (stops.Fault kind) rest ≡ errors.Fault fault → FirstAt tokens.items fault
+pub first_at : (tokens : TokenList) (fault : Fault) (kind : FaultKind) (rest : List Token) → module_ 200 199 tokens.items ≡ Err (read_errs.Fault kind, rest) → (e : Suffixes rest tokens.items) → Begins e.front → ((t : Token) (behind : List Token) → rest ≡ t ∷ behind → HasKind e.front t kind) → (rest ≡ [] → kind ≡ Expected) → error_of tokens.items (read_errs.Fault kind) rest ≡ errors.Fault fault → FirstAt tokens.items fault
 first_at tokens fault kind rest is e agrees kinds ends answer =
     let same_kind = fault_kind tokens.items fault kind rest answer in
     record {
@@ -93,8 +93,8 @@ first_at tokens fault kind rest is e agrees kinds ends answer =
       kind_is = λ t behind rest_is. subst (HasKind e.front t) same_kind (kinds t behind rest_is);
       short = λ last_line tree rest_is text.
           let whole : tokens.items ≡ e.front = e.is ∙ ap (λ (xs : List Token). e.front ++ xs) rest_is ∙ append-nil e.front in
-          not_read (stops.Fault kind, rest) (with_items no_items tree.items tree.tokens) []
+          not_read (read_errs.Fault kind, rest) (with_items no_items tree.items tree.tokens) []
           (sym is ∙ ap (module_ 200 199) whole ∙ text_is_read 199 199 e.front last_line tree text);
       ends = λ rest_is. sym same_kind ∙ ends rest_is;
-      place_is = place_by tokens.items fault (stops.Fault kind) rest answer;
+      place_is = place_by tokens.items fault (read_errs.Fault kind) rest answer;
     }

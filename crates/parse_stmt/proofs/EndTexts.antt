@@ -25,7 +25,7 @@ use Rattle.fb_ast.specs.declared.part.Head.{Head}
 use Rattle.fb_ast.specs.declared.ty.TypeName.{TypeName}
 use Rattle.fb_ast.specs.declared.stmt.Block.{Block, roll-Block}
 use Rattle.fb_ast.specs.declared.stmt.CaseBranch.{CaseBranch}
-use Rattle.parse_expr.specs.declared.stop.Stop.TheVariants as stops
+use Rattle.parse_expr.specs.declared.error.ReadErr.TheVariants as read_errs
 use Rattle.fb_ast.specs.declared.stmt.Branch.{Branch}
 use Rattle.fb_ast.specs.declared.stmt.End.{End}
 use Rattle.fb_ast.specs.declared.stmt.Printed.{Printed}
@@ -39,8 +39,8 @@ use Rattle.parse_expr.specs.Reading as reading
 use Rattle.parse_expr.specs.Faults.{is_refused_kind}
 use Rattle.parse_parts.specs.declared.kinds.Level.{Level}
 use Rattle.parse_parts.specs.declared.kinds.Level.TheVariants as levels
-use Rattle.parse_parts.specs.declared.kinds.Line.{Line}
-use Rattle.parse_parts.specs.declared.kinds.Line.TheVariants as lines
+use Rattle.parse_parts.specs.declared.kinds.InLine.{InLine}
+use Rattle.parse_parts.specs.declared.kinds.InLine.TheVariants as lines
 use Rattle.parse_parts.specs.declared.kinds.Spot.{Spot}
 use Rattle.parse_parts.specs.declared.kinds.Lead.{Lead}
 use Rattle.parse_parts.specs.declared.kinds.Lead.TheVariants as leads
@@ -222,91 +222,91 @@ module _ (most : ℕ) where
   -- ---- statements with statements inside
 
   module _ (inner : Spot → Reader Stmt) (room : ℕ) (i : (spot : Spot) → Early (inner spot)) where
-    e_deep_end : (line : Line) → Early (b.deep_end line)
+    e_deep_end : (line : InLine) → Early (b.deep_end line)
     unfolding b.deep_end b.behind_end
-    e_deep_end line = e_next {q = λ ts. Err (stops.Fault (b.behind_end line ts), ts)} (record { at = λ ts. astray_end _ ts })
+    e_deep_end line = e_next {q = λ ts. Err (read_errs.Fault (b.behind_end line ts), ts)} (record { at = λ ts. astray_end _ ts })
 
-    e_block_turn : (level : Level) (line : Line) (closer : Closer) (found : List Stmt) → Early (b.block_turn most inner room level line closer found)
+    e_block_turn : (level : Level) (line : InLine) (closer : Closer) (found : List Stmt) → Early (b.block_turn most inner room level line closer found)
     unfolding b.block_turn b.block_stmt b.ended
     e_block_turn level line closer found = record {
       at = λ ts. test_end (sees_sep line ts) _ _ tt (test_end (b.closed closer ts) _ _ tt ((e_then (e_choose (b.end_is_deep most inner room closer) (e_deep_end line) (i (record { level = level; line = line; other = ExtraText }))) (λ x. e_must (e_sep line) (e_pure (found ++ x ∷ [], true)))).at ts));
     }
 
-    e_body : (level : Level) (line : Line) (closer : Closer) → Early (b.body most inner room level line closer)
+    e_body : (level : Level) (line : InLine) (closer : Closer) → Early (b.body most inner room level line closer)
     unfolding b.body b.block
     e_body level line closer = e_then (e_all (b.block_turn most inner room level line closer) (e_block_turn level line closer) []) (λ all. e_then e_here (λ end. e_pure (roll-Block (record { stmts = all; end = end }))))
 
-    e_row : (level : Level) (other : FaultKind) → Early (b.row most inner room level other)
-    unfolding b.row b.row_from b.row_turn
-    e_row level other = e_then (i (record { level = level; line = lines.Row; other = other })) (λ x. e_all (b.row_turn most inner room level) (λ found. e_behind (sees_sep lines.Row) (e_made _ (i (record { level = level; line = lines.Row; other = Expected }))) (e_pure (found, false))) (x ∷ []))
+    e_series : (level : Level) (other : FaultKind) → Early (b.series most inner room level other)
+    unfolding b.series b.series_from b.series_turn
+    e_series level other = e_then (i (record { level = level; line = lines.Series; other = other })) (λ x. e_all (b.series_turn most inner room level) (λ found. e_behind (sees_sep lines.Series) (e_made _ (i (record { level = level; line = lines.Series; other = Expected }))) (e_pure (found, false))) (x ∷ []))
 
-    e_row_then : (level : Level) → Early (b.row_then most inner room level)
-    unfolding b.row_then
-    e_row_then level = record { at = λ ts. (e_then (e_row level ExtraText) (λ all. record { at = λ rest. tt })).at ts }
+    e_series_then : (level : Level) → Early (b.series_then most inner room level)
+    unfolding b.series_then
+    e_series_then level = record { at = λ ts. (e_then (e_series level ExtraText) (λ all. record { at = λ rest. tt })).at ts }
 
-    e_row_else : (level : Level) → Early (b.row_else most inner room level)
-    unfolding b.row_else
-    e_row_else level = record { at = λ ts. (e_then (e_row level Expected) (λ all. record { at = λ rest. tt })).at ts }
+    e_series_else : (level : Level) → Early (b.series_else most inner room level)
+    unfolding b.series_else
+    e_series_else level = record { at = λ ts. (e_then (e_series level Expected) (λ all. record { at = λ rest. tt })).at ts }
 
-    e_row_other : (level : Level) → Early (b.row_other most inner room level)
-    unfolding b.row_other
-    e_row_other level = e_placed (sees_word w.KwElse) place_at (λ at. e_made (λ (a : Block). Some (at, a)) (e_row_else level)) (e_pure None)
+    e_series_other : (level : Level) → Early (b.series_other most inner room level)
+    unfolding b.series_other
+    e_series_other level = e_placed (sees_word w.KwElse) place_at (λ at. e_made (λ (a : Block). Some (at, a)) (e_series_else level)) (e_pure None)
 
-    e_if_row : (at : Span) (condition : Expr) (level : Level) → Early (b.if_row most inner room at condition level)
-    unfolding b.if_row
-    e_if_row at condition level = e_then (e_row_then level) (λ one. e_made _ (e_row_other level))
+    e_if_series : (at : Span) (condition : Expr) (level : Level) → Early (b.if_series most inner room at condition level)
+    unfolding b.if_series
+    e_if_series at condition level = e_then (e_series_then level) (λ one. e_made _ (e_series_other level))
 
-    e_branch : (at : Span) (condition : Expr) (level : Level) (line : Line) → Early (b.branch most inner room at condition level line)
+    e_branch : (at : Span) (condition : Expr) (level : Level) (line : InLine) → Early (b.branch most inner room at condition level line)
     unfolding b.branch
     e_branch at condition level line = e_made _ (e_body level line closers.Branches)
 
-    e_branches : (level : Level) (line : Line) (one : Branch) → Early (b.branches most inner room level line one)
+    e_branches : (level : Level) (line : InLine) (one : Branch) → Early (b.branches most inner room level line one)
     unfolding b.branches b.branch_turn b.else_if
     e_branches level line one = e_all (b.branch_turn most inner room level line)
         (λ found. e_placed (sees_word w.KwElseIf) place_at (λ at. e_made (λ (x : Branch). (found ++ x ∷ [], true)) (e_then (e_whole most) (λ condition. e_must (e_expect_word w.KwThen) (e_must (e_sep line) (e_branch at condition level line))))) (e_pure (found, false))) (one ∷ [])
 
-    e_any_else : (level : Level) (line : Line) → Early (b.any_else most inner room level line)
+    e_any_else : (level : Level) (line : InLine) → Early (b.any_else most inner room level line)
     unfolding b.any_else b.else_body
     e_any_else level line = e_placed (sees_word w.KwElse) place_at (λ at. e_made (λ (a : Block). Some (at, a)) (e_must (e_sep line) (e_body level line closers.Else))) (e_pure None)
 
-    e_if_block : (at : Span) (condition : Expr) (level : Level) (line : Line) → Early (b.if_block most inner room at condition level line)
+    e_if_block : (at : Span) (condition : Expr) (level : Level) (line : InLine) → Early (b.if_block most inner room at condition level line)
     unfolding b.if_block
     e_if_block at condition level line = e_then (e_branch at condition level line) (λ one. e_then (e_branches level line one) (λ all. e_then (e_any_else level line) (λ other. e_made _ (e_end_of w.KwIf))))
 
-    e_if_by : (line : Line) (at : Span) (condition : Expr) (level : Level) → Early (b.if_by most inner room line at condition level)
-    e_if_by lines.Free at condition level = e_if_row at condition level
-    e_if_by lines.Row at condition level = e_if_row at condition level
+    e_if_by : (line : InLine) (at : Span) (condition : Expr) (level : Level) → Early (b.if_by most inner room line at condition level)
+    e_if_by lines.Free at condition level = e_if_series at condition level
+    e_if_by lines.Series at condition level = e_if_series at condition level
     e_if_by lines.Inner at condition level = record { at = λ ts. extra_end ts }
 
-    e_if : (at : Span) (level : Level) (line : Line) → Early (b.if_ most inner room at level line)
+    e_if : (at : Span) (level : Level) (line : InLine) → Early (b.if_ most inner room at level line)
     unfolding b.if_ b.if_behind
     e_if at level line = e_next (e_then (e_whole most) (λ condition. e_must (e_expect_word w.KwThen) (e_behind (sees_sep line) (e_if_block at condition (level_within level) (line_within line)) (e_if_by line at condition (level_within level)))))
 
-    e_for : (at : Span) (level : Level) (line : Line) → Early (b.for_ most inner room at level line)
+    e_for : (at : Span) (level : Level) (line : InLine) → Early (b.for_ most inner room at level line)
     unfolding b.for_ b.for_head b.range b.for_tail
     e_for at level line = e_next (e_then
         (e_then e_name (λ n. e_then e_any_type (λ ty. e_must (e_expect Equal) (e_made _ (e_then (e_whole most) (λ start. e_must (e_expect_word w.KwTo) (e_then (e_whole most) (λ end. e_made _ (e_value_behind most w.KwStep)))))))))
         (λ head. e_made _ (e_must (e_sep line) (e_then (e_body level line closers.Next) (λ a. e_next (e_made _ e_any_name))))))
 
-    e_while : (at : Span) (level : Level) (line : Line) → Early (b.while_ most inner room at level line)
+    e_while : (at : Span) (level : Level) (line : InLine) → Early (b.while_ most inner room at level line)
     unfolding b.while_
     e_while at level line = e_next (e_then (e_whole most) (λ condition. e_must (e_sep line) (e_then (e_body level line closers.Wend) (λ a. e_next (e_pure _)))))
 
-    e_do : (at : Span) (level : Level) (line : Line) → Early (b.do_ most inner room at level line)
+    e_do : (at : Span) (level : Level) (line : InLine) → Early (b.do_ most inner room at level line)
     unfolding b.do_
     e_do at level line = e_next (e_then e_any_test (λ test. e_must (e_sep line) (e_then (e_body level line closers.Loop) (λ a. e_next (e_made _ (e_last_test (is_some test)))))))
 
-    e_case_branch : (at : Span) (level : Level) (line : Line) → Early (b.case_branch most inner room at level line)
+    e_case_branch : (at : Span) (level : Level) (line : InLine) → Early (b.case_branch most inner room at level line)
     unfolding b.case_branch
     e_case_branch at level line = e_then e_cases (λ all. e_must (e_sep line) (e_made _ (e_body level line closers.Cases)))
 
-    e_select : (at : Span) (level : Level) (line : Line) → Early (b.select most inner room at level line)
+    e_select : (at : Span) (level : Level) (line : InLine) → Early (b.select most inner room at level line)
     unfolding b.select b.case_branches b.select_turn
     e_select at level line = e_next (e_must (e_expect_word w.KwCase) (e_then (e_whole most) (λ value. e_must (e_sep line) (e_then
         (e_all (b.select_turn most inner room level line) (λ found. e_placed (sees_word w.KwCase) place_at (λ place. e_made (λ (x : CaseBranch). (found ++ x ∷ [], true)) (e_case_branch place level line)) (e_pure (found, false))) [])
         (λ all. e_made _ (e_end_of w.KwSelect))))))
 
-    e_scope : (at : Span) (level : Level) (line : Line) → Early (b.scope most inner room at level line)
+    e_scope : (at : Span) (level : Level) (line : InLine) → Early (b.scope most inner room at level line)
     unfolding b.scope
     e_scope at level line = e_next (e_must (e_sep line) (e_then (e_body level line closers.Scope) (λ a. e_made _ (e_end_of w.KwScope))))
 

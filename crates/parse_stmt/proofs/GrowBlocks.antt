@@ -13,11 +13,11 @@ use Rattle.parse_expr.specs.Reading.{first, next, is_word, same_word, sees_word,
 use Rattle.parse_expr.proofs.Sound.{Done, bind, by_test, map_done}
 use Rattle.parse_expr.proofs.Fills.{Failed, failed_then, failed_pure, map_failed}
 use Rattle.parse_expr.proofs.Ends.{no_longer}
-use Rattle.parse_expr.proofs.Rowed.{here as at_start, a_number}
+use Rattle.parse_expr.proofs.Completed.{here as at_start, a_number}
 use Rattle.fb_ast.specs.declared.expr.Expr.{Expr}
 use Rattle.parse_parts.specs.declared.kinds.Level.{Level}
-use Rattle.parse_parts.specs.declared.kinds.Line.{Line}
-use Rattle.parse_parts.specs.declared.kinds.Line.TheVariants as lines
+use Rattle.parse_parts.specs.declared.kinds.InLine.{InLine}
+use Rattle.parse_parts.specs.declared.kinds.InLine.TheVariants as lines
 use Rattle.parse_parts.specs.declared.kinds.Spot.{Spot}
 use Rattle.parse_parts.specs.declared.kinds.Closer.{Closer}
 use Rattle.parse_parts.specs.Words.{line_within, ends_with_end}
@@ -26,7 +26,7 @@ use Rattle.parse_parts.specs.Steps as steps
 use Rattle.parse_stmt.specs.Blocks.{closed, deep_end, behind_end, end_is_deep, block_stmt, ended, block_turn}
 use Rattle.parse_stmt.specs.Blocks as b
 use Rattle.parse_stmt.specs.Phrases.{Phrase, gives, Then, maybe, word, expression}
-use Rattle.parse_stmt.specs.Statements.{Statements, none, blank, some, Row, another, end_of}
+use Rattle.parse_stmt.specs.Statements.{Statements, none, blank, some, Series, another, end_of}
 use Rattle.parse_stmt.specs.Statements as g
 use Rattle.parse_stmt.proofs.Smallest.{word_is, holds_next}
 use Rattle.parse_stmt.proofs.Heads.{regroup}
@@ -80,7 +80,7 @@ failed_with F (Err p) f x = x
 -- ---- ends of statements
 
 -- a token that ends a statement there, whatever stands behind it
-pub record EndOf (line : Line) : Type 0 where
+pub record EndOf (line : InLine) : Type 0 where
   pub token : Token
   pub is_end : IsEnd token
   pub ends : (r : List Token) → sees_sep line (token ∷ r) ≡ true
@@ -93,10 +93,10 @@ pub end_free : EndOf lines.Free
 unfolding sees_sep first
 end_free = record { token = line_end; is_end = inr refl; ends = λ r. refl; stops_it = λ r. refl }
 
-pub end_within : (line : Line) → EndOf (line_within line)
+pub end_within : (line : InLine) → EndOf (line_within line)
 unfolding sees_sep first
 end_within lines.Free = end_free
-end_within lines.Row = record { token = colon; is_end = inl refl; ends = λ r. refl; stops_it = λ r. refl }
+end_within lines.Series = record { token = colon; is_end = inl refl; ends = λ r. refl; stops_it = λ r. refl }
 end_within lines.Inner = record { token = colon; is_end = inl refl; ends = λ r. refl; stops_it = λ r. refl }
 
 -- ---- statements inside
@@ -109,12 +109,12 @@ Nothing reach room ts kind rest = ((room == 0) ≡ true) × (rest ≡ ts) × ((m
 abbrev pub Elsewhere : FaultKind → List Token → FaultKind → List Token → Type 0
 Elsewhere other ts kind rest = (rest ≡ ts) × (kind ≡ other) × (other ≡ Expected → ⊥)
 
-abbrev pub StmtFault : Reach → Phrase Stmt → Line → ℕ → FaultKind → List Token → FaultKind → List Token → Type 0
+abbrev pub StmtFault : Reach → Phrase Stmt → InLine → ℕ → FaultKind → List Token → FaultKind → List Token → Type 0
 StmtFault reach one line room other ts kind rest = Begun reach one (stops line) ts kind rest ⊎ (Nothing reach room ts kind rest ⊎ Elsewhere other ts kind rest)
 
 -- In a deeper phrase an End may begin a statement.
-abbrev pub EndStands : Reach → ℕ → (Level → Line → Phrase Stmt) → Type 0
-EndStands reach wide Outer = OnFar reach ((level : Level) (line : Line) (t : Token) → t.kind ≡ kinds.Word w.KwEnd → (ts rest : List Token) (x : Option Expr) → maybe (expression wide) ts x rest → (s : Stmt) × Outer level line (t ∷ ts) s rest)
+abbrev pub EndStands : Reach → ℕ → (Level → InLine → Phrase Stmt) → Type 0
+EndStands reach wide Outer = OnFar reach ((level : Level) (line : InLine) (t : Token) → t.kind ≡ kinds.Word w.KwEnd → (ts rest : List Token) (x : Option Expr) → maybe (expression wide) ts x rest → (s : Stmt) × Outer level line (t ∷ ts) s rest)
 
 abbrev pub token_in : Token → List Token → Token
 token_in other [] = other
@@ -141,7 +141,7 @@ closing_made which self f t is r = (
   },
 )
 
-pub body_stands : (wide : ℕ) (Outer : Level → Line → Phrase Stmt) (level : Level) (line : Line) (r : List Token) → (x : Block) × g.body wide Outer level line r x r
+pub body_stands : (wide : ℕ) (Outer : Level → InLine → Phrase Stmt) (level : Level) (line : InLine) (r : List Token) → (x : Block) × g.body wide Outer level line r x r
 body_stands wide Outer level line r = (roll-Block (record { stmts = []; end = place_at r }), record { given = []; between = r; front = none r; back = record { given = place_at r; between = r; front = (refl, refl); back = (refl, refl) } })
 
 module _ {reach : Reach} where
@@ -241,8 +241,8 @@ module _ {reach : Reach} where
     sound = λ ts. bind (P ts) (Then P (λ a. gives (f a)) ts) _ _ (x.sound ts) (λ a rest is. record { given = a; between = rest; front = is; back = (refl, refl) });
   }
 
-module _ (reach : Reach) (deep : ℕ) (inner : Spot → Reader Stmt) (room : ℕ) (Inner : Level → Line → Phrase Stmt) (inside : Inside inner room Inner)
-    (Outer : Level → Line → Phrase Stmt) (widens : (level : Level) (line : Line) → Wider (Inner level line) (Outer level line)) (l : (level : Level) (line : Line) → Like (Outer level line) (Outer level line) Whatever (stops line))
+module _ (reach : Reach) (deep : ℕ) (inner : Spot → Reader Stmt) (room : ℕ) (Inner : Level → InLine → Phrase Stmt) (inside : Inside inner room Inner)
+    (Outer : Level → InLine → Phrase Stmt) (widens : (level : Level) (line : InLine) → Wider (Inner level line) (Outer level line)) (l : (level : Level) (line : InLine) → Like (Outer level line) (Outer level line) Whatever (stops line))
     (inner_fails : (spot : Spot) (ts : List Token) → Failed (StmtFault reach (Outer spot.level spot.line) spot.line room spot.other ts) (inner spot ts)) (ends : EndStands reach (over reach (suc deep)) Outer) where
   abbrev most : ℕ
   most = suc deep
@@ -255,7 +255,7 @@ module _ (reach : Reach) (deep : ℕ) (inner : Spot → Reader Stmt) (room : ℕ
 
   -- ---- blocks
 
-  module _ (level : Level) (line : Line) (closer : Closer) (end : EndOf line) where
+  module _ (level : Level) (line : InLine) (closer : Closer) (end : EndOf line) where
     abbrev one : Phrase Stmt
     one = Outer level line
 
@@ -491,30 +491,30 @@ module _ (reach : Reach) (deep : ℕ) (inner : Spot → Reader Stmt) (room : ℕ
         (map_failed (BlockFault ts) (BodyFault ts) (repeat (block_turn most inner room level line closer) (length ts + 1) [] ts) (block_fails (length ts + 1) [] ts (omega arith)) (body_fault ts))
 
   -- a block that isn't ended by End has no fault behind one
-  plain_body : (level : Level) (line : Line) (closer : Closer) (end : EndOf line) → ends_with_end closer ≡ false → (ts : List Token) (kind : FaultKind) (rest : List Token) → BodyFault level line closer end ts kind rest → Begun reach (g.body wide Outer level line) any ts kind rest
+  plain_body : (level : Level) (line : InLine) (closer : Closer) (end : EndOf line) → ends_with_end closer ≡ false → (ts : List Token) (kind : FaultKind) (rest : List Token) → BodyFault level line closer end ts kind rest → Begun reach (g.body wide Outer level line) any ts kind rest
   plain_body level line closer end apart ts kind rest (inl f) = f
   plain_body level line closer end apart ts kind rest (inr f) = let bad : true ≡ false = sym f.0 ∙ apart in cc
 
-  body_or_cut : (level : Level) (line : Line) (closer : Closer) (end : EndOf line) → (ts : List Token) (kind : FaultKind) (rest : List Token) → BodyFault level line closer end ts kind rest → OrCut reach (g.body wide Outer level line) ts kind rest
+  body_or_cut : (level : Level) (line : InLine) (closer : Closer) (end : EndOf line) → (ts : List Token) (kind : FaultKind) (rest : List Token) → BodyFault level line closer end ts kind rest → OrCut reach (g.body wide Outer level line) ts kind rest
   body_or_cut level line closer end ts kind rest (inl f) = inl f
   body_or_cut level line closer end ts kind rest (inr f) = inr f.1
 
-  body_sound : (level : Level) (line : Line) (closer : Closer) (ts : List Token) → Done (g.body wide Outer level line ts) (b.body most inner room level line closer ts)
+  body_sound : (level : Level) (line : InLine) (closer : Closer) (ts : List Token) → Done (g.body wide Outer level line ts) (b.body most inner room level line closer ts)
   body_sound level line closer ts = widened (wide_body most wide fits Inner Outer widens level line) ts (b.body most inner room level line closer ts) ((ended_body deep inner room Inner inside level line closer).sound ts)
 
-  pub e_body : (level : Level) (line : Line) (closer : Closer) (end : EndOf line) → GrowsE reach (b.body most inner room level line closer) (g.body wide Outer level line)
+  pub e_body : (level : Level) (line : InLine) (closer : Closer) (end : EndOf line) → GrowsE reach (b.body most inner room level line closer) (g.body wide Outer level line)
   e_body level line closer end = record {
     fails = λ ts. map_failed (BodyFault level line closer end ts) (OrCut reach (g.body wide Outer level line) ts) (b.body most inner room level line closer ts) (body_fails level line closer end ts) (body_or_cut level line closer end ts);
     sound = body_sound level line closer;
   }
 
-  pub like_the_body : (level : Level) (line : Line) → Like (g.body wide Outer level line) (g.body wide Outer level line) Whatever any
+  pub like_the_body : (level : Level) (line : InLine) → Like (g.body wide Outer level line) (g.body wide Outer level line) Whatever any
   like_the_body level line = like_body wide Outer l level line
 
-  pub body_least : (level : Level) (line : Line) (r : List Token) → (x : Block) × g.body wide Outer level line r x r
+  pub body_least : (level : Level) (line : InLine) (r : List Token) → (x : Block) × g.body wide Outer level line r x r
   body_least level line r = body_stands wide Outer level line r
 
-  pub body_fails_or_cut : (level : Level) (line : Line) (closer : Closer) (end : EndOf line) (ts : List Token) → Failed (OrCut reach (g.body wide Outer level line) ts) (b.body most inner room level line closer ts)
+  pub body_fails_or_cut : (level : Level) (line : InLine) (closer : Closer) (end : EndOf line) (ts : List Token) → Failed (OrCut reach (g.body wide Outer level line) ts) (b.body most inner room level line closer ts)
   body_fails_or_cut level line closer end ts = (e_body level line closer end).fails ts
 
   -- a block and the word that ends it
@@ -529,7 +529,7 @@ module _ (reach : Reach) (deep : ℕ) (inner : Spot → Reader Stmt) (room : ℕ
     starts = f.starts;
   }
 
-  module _ {B : Type 0} (level : Level) (line : Line) (closer : Closer) (end : EndOf line) (which : Word) (self : is_word which (kinds.Word which) ≡ true) (same : (ts : List Token) → closed closer ts ≡ sees_word which ts) (apart : ends_with_end closer ≡ false)
+  module _ {B : Type 0} (level : Level) (line : InLine) (closer : Closer) (end : EndOf line) (which : Word) (self : is_word which (kinds.Word which) ≡ true) (same : (ts : List Token) → closed closer ts ≡ sees_word which ts) (apart : ends_with_end closer ≡ false)
       (k : Block → Reader B) (K : Block → Phrase B) (g_ : (b : Block) → Grows reach (k b) (K b) any) (m : (a b : Block) → Like (K a) (K b) Whatever any) where
     abbrev LoopEnd : Block → Phrase B
     LoopEnd b = Then (word which) (λ u. K b)

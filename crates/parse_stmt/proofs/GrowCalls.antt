@@ -20,12 +20,12 @@ use Rattle.parse_expr.specs.declared.kinds.OperandWord.TheVariants as operands
 use Rattle.parse_expr.specs.Words.{operand_word, prefix_of}
 use Rattle.parse_expr.specs.Reading.{first, next, is_mark, same_mark, holds, sees, Reader, Outcome, and_then, pure, stop}
 use Rattle.parse_expr.specs.Faults.{is_refused_kind}
-use Rattle.parse_expr.specs.Rows.{gives as gives_row, call_word_row, Nothing, start_of, word_start}
+use Rattle.parse_expr.specs.Productions.{gives as gives_series, call_word_production, Nothing, start_of, word_start}
 use Rattle.parse_expr.specs.Grammar.{Is, Expression, primary as a_primary, nothing as nothing_behind, a_mark, no_arguments}
 use Rattle.parse_expr.proofs.Sound.{by_test, seen}
 use Rattle.parse_expr.proofs.Refused.{nowhere}
 use Rattle.parse_expr.proofs.Fills.{Failed, failed_then, failed_pure, map_failed}
-use Rattle.parse_expr.proofs.Rowed.{here as at_start, a_number, mark_token, number_is}
+use Rattle.parse_expr.proofs.Completed.{here as at_start, a_number, mark_token, number_is}
 use Rattle.parse_parts.specs.Steps as steps
 use Rattle.parse_parts.specs.Simple.{assignment_at, assign, assign_by, must_assign, may_assign, arguments, call_name, named, is_call, headed, goes_on, sees_bare, valued, called}
 use Rattle.parse_stmt.specs.Phrases.{Phrase, gives, Then, IsName, expression, place}
@@ -272,10 +272,10 @@ module _ (reach : Reach) (deep : ℕ) where
   unfolding sees first next same_mark
   shut_call at t word which o kind is open_ r =
       let tree = e.CallWord t.at which [] in
-      let behind_row = λ (all : List Expr). gives_row (e.CallWord t.at which all) in
+      let behind_series = λ (all : List Expr). gives_series (e.CallWord t.at which all) in
       let it : Is (Expression 14 1 tree) (t ∷ o ∷ mark_token Close ∷ []) =
-      a_primary t (call_word_row t.at which) (o ∷ mark_token Close ∷ []) 14 1 tree (ap prefix_of kind ∙ no_prefix word which is) (rw (kind, is) refl) (omega arith)
-      (a_mark o (mark_token Close ∷ []) Open _ 0 1 tree open_ (no_arguments (mark_token Close) [] behind_row 0 1 tree refl (nothing_behind 0 tree))) in (
+      a_primary t (call_word_production t.at which) (o ∷ mark_token Close ∷ []) 14 1 tree (ap prefix_of kind ∙ no_prefix word which is) (rw (kind, is) refl) (omega arith)
+      (a_mark o (mark_token Close ∷ []) Open _ 0 1 tree open_ (no_arguments (mark_token Close) [] behind_series 0 1 tree refl (nothing_behind 0 tree))) in (
         k.Call at tree,
         inl (
           ap (is_mark Open) open_,

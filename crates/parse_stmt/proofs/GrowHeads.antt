@@ -15,7 +15,7 @@ use Rattle.parse_expr.specs.Reading.{first, next, same_mark, same_word, sees, se
 use Rattle.parse_expr.specs.Types as types
 use Rattle.parse_expr.proofs.Sound.{Done, by_test, map_done}
 use Rattle.parse_expr.proofs.Fills.{Failed, map_failed}
-use Rattle.parse_expr.proofs.Rowed.{here as at_start, mark_token}
+use Rattle.parse_expr.proofs.Completed.{here as at_start, mark_token}
 use Rattle.parse_parts.specs.Steps.{place_at, sees_name}
 use Rattle.parse_parts.specs.Steps as steps
 use Rattle.parse_parts.specs.Heads as p

@@ -11,9 +11,9 @@ use Rattle.fb_ast.specs.declared.stmt.Stmt.{Stmt}
 use Rattle.fb_ast.specs.declared.stmt.Stmt.TheVariants as k
 use Rattle.parse_expr.specs.Reading.{first, next, Reader, Outcome}
 use Rattle.parse_expr.proofs.Fills.{Failed, map_failed}
-use Rattle.parse_expr.proofs.Rowed.{here as at_start, mark_token}
+use Rattle.parse_expr.proofs.Completed.{here as at_start, mark_token}
 use Rattle.parse_parts.specs.declared.kinds.Level.{Level}
-use Rattle.parse_parts.specs.declared.kinds.Line.{Line}
+use Rattle.parse_parts.specs.declared.kinds.InLine.{InLine}
 use Rattle.parse_parts.specs.declared.kinds.Spot.{Spot}
 use Rattle.parse_parts.specs.declared.kinds.Lead.{Lead}
 use Rattle.parse_parts.specs.declared.kinds.Lead.TheVariants as leads
@@ -41,27 +41,27 @@ use Rattle.parse_stmt.proofs.GrowStmts.{goes_for, goes_while, goes_do, goes_scop
 
 -- ---- statements that stand everywhere
 
-module _ (wide : ℕ) (Outer : Level → Line → Phrase Stmt) where
+module _ (wide : ℕ) (Outer : Level → InLine → Phrase Stmt) where
   -- `Exit For`
-  an_exit : (level : Level) (line : Line) (r : List Token) → (x : Stmt) × g.statement wide Outer level line ((word_token w.KwExit ∷ word_token w.KwFor ∷ []) ++ r) x r
+  an_exit : (level : Level) (line : InLine) (r : List Token) → (x : Stmt) × g.statement wide Outer level line ((word_token w.KwExit ∷ word_token w.KwFor ∷ []) ++ r) x r
   unfolding first next
   an_exit level line r = (k.Exit at_start _, (word_token w.KwExit, word_token w.KwFor ∷ r, refl, record { given = tt; between = word_token w.KwFor ∷ r; front = refl; back = record { given = _; between = r; front = record { is = refl; behind = refl }; back = (refl, refl) } }))
 
   -- Print
-  a_print : (level : Level) (line : Line) (r : List Token) → (x : Stmt) × g.statement wide Outer level line ((word_token w.KwPrint ∷ []) ++ r) x r
+  a_print : (level : Level) (line : InLine) (r : List Token) → (x : Stmt) × g.statement wide Outer level line ((word_token w.KwPrint ∷ []) ++ r) x r
   unfolding next
   a_print level line r = (k.Print at_start [], (word_token w.KwPrint, r, refl, record { given = tt; between = r; front = refl; back = record { given = []; between = r; front = nothing true r; back = (refl, refl) } }))
 
   -- End, perhaps with a value
-  pub ending : (level : Level) (line : Line) (t : Token) → t.kind ≡ kinds.Word w.KwEnd → (ts rest : List Token) (x : Option Expr) → maybe (expression wide) ts x rest → (s : Stmt) × g.statement wide Outer level line (t ∷ ts) s rest
+  pub ending : (level : Level) (line : InLine) (t : Token) → t.kind ≡ kinds.Word w.KwEnd → (ts rest : List Token) (x : Option Expr) → maybe (expression wide) ts x rest → (s : Stmt) × g.statement wide Outer level line (t ∷ ts) s rest
   unfolding next
   ending level line t is ts rest x v =
       let lead : lead_of level t.kind ≡ leads.End = ap (lead_of level) is in
       let led : g.led wide Outer t.at level line leads.End (t ∷ ts) (k.End t.at x) rest = record { given = tt; between = ts; front = refl; back = record { given = x; between = rest; front = v; back = (refl, refl) } } in
       (k.End t.at x, (t, ts, refl, subst (λ (l : Lead). g.led wide Outer t.at level line l (t ∷ ts) (k.End t.at x) rest) (sym lead) led))
 
-module _ (reach : Reach) (deep : ℕ) (inner : Spot → Reader Stmt) (room : ℕ) (Inner : Level → Line → Phrase Stmt) (inside : Inside inner room Inner)
-    (Outer : Level → Line → Phrase Stmt) (widens : (level : Level) (line : Line) → Wider (Inner level line) (Outer level line)) (l : (level : Level) (line : Line) → Like (Outer level line) (Outer level line) Whatever (stops line))
+module _ (reach : Reach) (deep : ℕ) (inner : Spot → Reader Stmt) (room : ℕ) (Inner : Level → InLine → Phrase Stmt) (inside : Inside inner room Inner)
+    (Outer : Level → InLine → Phrase Stmt) (widens : (level : Level) (line : InLine) → Wider (Inner level line) (Outer level line)) (l : (level : Level) (line : InLine) → Like (Outer level line) (Outer level line) Whatever (stops line))
     (inner_fails : (spot : Spot) (ts : List Token) → Failed (StmtFault reach (Outer spot.level spot.line) spot.line room spot.other ts) (inner spot ts)) (ends : EndStands reach (over reach (suc deep)) Outer) where
   abbrev most : ℕ
   most = suc deep
@@ -69,26 +69,26 @@ module _ (reach : Reach) (deep : ℕ) (inner : Spot → Reader Stmt) (room : ℕ
   abbrev wide : ℕ
   wide = over reach most
 
-  abbrev Statement : Level → Line → Phrase Stmt
+  abbrev Statement : Level → InLine → Phrase Stmt
   Statement level line = g.statement wide Outer level line
 
   -- ---- at the first token
 
-  abbrev FirstBegun : Level → Line → List Token → FaultKind → Type 0
+  abbrev FirstBegun : Level → InLine → List Token → FaultKind → Type 0
   FirstBegun level line ts kind = Begun reach (Statement level line) (stops line) ts kind ts
 
-  exit_at_once : (level : Level) (line : Line) (ts : List Token) (kind : FaultKind) → Starts reach kind ts (word_token w.KwExit ∷ word_token w.KwFor ∷ []) → FirstBegun level line ts kind
+  exit_at_once : (level : Level) (line : InLine) (ts : List Token) (kind : FaultKind) → Starts reach kind ts (word_token w.KwExit ∷ word_token w.KwFor ∷ []) → FirstBegun level line ts kind
   exit_at_once level line ts kind starts = at_once (Statement level line) (stops line) ts kind (word_token w.KwExit ∷ word_token w.KwFor ∷ []) (λ r c. an_exit wide Outer level line r) starts
 
-  print_at_once : (level : Level) (line : Line) (ts : List Token) (kind : FaultKind) → Starts reach kind ts (word_token w.KwPrint ∷ []) → FirstBegun level line ts kind
+  print_at_once : (level : Level) (line : InLine) (ts : List Token) (kind : FaultKind) → Starts reach kind ts (word_token w.KwPrint ∷ []) → FirstBegun level line ts kind
   print_at_once level line ts kind starts = at_once (Statement level line) (stops line) ts kind (word_token w.KwPrint ∷ []) (λ r c. a_print wide Outer level line r) starts
 
   -- ---- from a token on
 
-  abbrev Led : Token → Level → Line → Phrase Stmt
+  abbrev Led : Token → Level → InLine → Phrase Stmt
   Led t level line = g.led wide Outer t.at level line (lead_of level t.kind)
 
-  deep_first : (t : Token) (level : Level) (line : Line) (us more : List Token) → ((r : List Token) → stops line r ≡ true → (x : Stmt) × Led t level line (more ++ r) x r) → Starts reach DeepNesting (t ∷ us) more → FirstBegun level line (t ∷ us) DeepNesting
+  deep_first : (t : Token) (level : Level) (line : InLine) (us more : List Token) → ((r : List Token) → stops line r ≡ true → (x : Stmt) × Led t level line (more ++ r) x r) → Starts reach DeepNesting (t ∷ us) more → FirstBegun level line (t ∷ us) DeepNesting
   deep_first t level line us more stands starts = elim (reach_is reach) [
     | inl it ↦ exit_at_once level line (t ∷ us) DeepNesting (near_any reach _ it)
     | inr it ↦ (
@@ -99,14 +99,14 @@ module _ (reach : Reach) (deep : ℕ) (inner : Spot → Reader Stmt) (room : ℕ
         )
   ]
 
-  led_first : (t : Token) (level : Level) (line : Line) (us : List Token) (kind : FaultKind) (more : List Token) → ((r : List Token) → stops line r ≡ true → (x : Stmt) × Led t level line (more ++ r) x r) → Starts reach kind (t ∷ us) more → Plainly kind (t ∷ us) → FirstBegun level line (t ∷ us) kind
+  led_first : (t : Token) (level : Level) (line : InLine) (us : List Token) (kind : FaultKind) (more : List Token) → ((r : List Token) → stops line r ≡ true → (x : Stmt) × Led t level line (more ++ r) x r) → Starts reach kind (t ∷ us) more → Plainly kind (t ∷ us) → FirstBegun level line (t ∷ us) kind
   led_first t level line us Expected more stands starts plainly = exit_at_once level line (t ∷ us) Expected tt
   led_first t level line us ExtraText more stands starts plainly = absurd (plainly refl)
   led_first t level line us OutOfProfile more stands starts plainly = print_at_once level line (t ∷ us) OutOfProfile (starts_instead reach (t ∷ us) more starts (word_token w.KwPrint) [] (inr (inr (inl refl))))
   led_first t level line us DeepNesting more stands starts plainly = deep_first t level line us more stands starts
   led_first t level line us kind more stands starts plainly = absurd starts
 
-  led_begun : (t : Token) (level : Level) (line : Line) (us : List Token) (kind : FaultKind) (rest front more : List Token) → t ∷ us ≡ front ++ rest → ((r : List Token) → stops line r ≡ true → (x : Stmt) × Led t level line ((front ++ more) ++ r) x r) → Starts reach kind rest more → Plainly kind rest
+  led_begun : (t : Token) (level : Level) (line : InLine) (us : List Token) (kind : FaultKind) (rest front more : List Token) → t ∷ us ≡ front ++ rest → ((r : List Token) → stops line r ≡ true → (x : Stmt) × Led t level line ((front ++ more) ++ r) x r) → Starts reach kind rest more → Plainly kind rest
       → Begun reach (Statement level line) (stops line) (t ∷ us) kind rest
   led_begun t level line us kind rest [] more is stands starts plainly =
       subst (λ (xs : List Token). Begun reach (Statement level line) (stops line) (t ∷ us) kind xs) is (led_first t level line us kind more stands (subst (λ (xs : List Token). Starts reach kind xs more) (sym is) starts) plainly)
@@ -121,7 +121,7 @@ module _ (reach : Reach) (deep : ℕ) (inner : Spot → Reader Stmt) (room : ℕ
     starts = starts;
   }
 
-  module _ (t : Token) (level : Level) (line : Line) (lead : Lead) (is : lead_of level t.kind ≡ lead) where
+  module _ (t : Token) (level : Level) (line : InLine) (lead : Lead) (is : lead_of level t.kind ≡ lead) where
     abbrev LedBy : Phrase Stmt
     LedBy = g.led wide Outer t.at level line lead
 
@@ -156,7 +156,7 @@ module _ (reach : Reach) (deep : ℕ) (inner : Spot → Reader Stmt) (room : ℕ
   astray_fault z ts kind (out refused) = inl (print_at_once z.level z.line ts OutOfProfile (starts_out reach ts (word_token w.KwPrint) [] refused (inr (inr (inl refl)))))
   astray_fault z ts kind wrong = elim (expected_or z.other) [ inl is ↦ inl (subst (λ (x : FaultKind). FirstBegun z.level z.line ts x) (sym is) (exit_at_once z.level z.line ts Expected tt)) | inr other ↦ inr (refl, refl, other) ]
 
-  any_stop : (line : Line) (r : List Token) → stops line r ≡ true → any r ≡ true
+  any_stop : (line : InLine) (r : List Token) → stops line r ≡ true → any r ≡ true
   any_stop line r c = refl
 
   begun_fault : (z : Spot) (ts : List Token) (o : Outcome Stmt) → Failed (Begun reach (Statement z.level z.line) (stops z.line) ts) o → Failed (StatementFault z ts) o
@@ -197,13 +197,13 @@ module _ (reach : Reach) (deep : ℕ) (inner : Spot → Reader Stmt) (room : ℕ
 
   -- ---- a statement from its first token on
 
-  abbrev pub FromToken : Token → Level → Line → Type 0
+  abbrev pub FromToken : Token → Level → InLine → Type 0
   FromToken t level line = (m : List Token) × ((r : List Token) → stops line r ≡ true → (x : Stmt) × Statement level line ((t ∷ m) ++ r) x r)
 
-  goes_from : {p : Reader Stmt} {C : List Token → Bool} (t : Token) (level : Level) (line : Line) (lead : Lead) → lead_of level t.kind ≡ lead → ((r : List Token) → stops line r ≡ true → C r ≡ true) → Goes reach p (g.led wide Outer t.at level line lead) t C → FromToken t level line
+  goes_from : {p : Reader Stmt} {C : List Token → Bool} (t : Token) (level : Level) (line : InLine) (lead : Lead) → lead_of level t.kind ≡ lead → ((r : List Token) → stops line r ≡ true → C r ≡ true) → Goes reach p (g.led wide Outer t.at level line lead) t C → FromToken t level line
   goes_from t level line lead is stop x = (x.least, λ r c. let y = x.stands r (stop r c) in (y.0, (t, x.least ++ r, refl, led_is t level line lead is ((t ∷ x.least) ++ r) y.0 r y.1)))
 
-  pub from_token : 2 ≤ wide → (t : Token) (level : Level) (line : Line) (lead : Lead) → lead_of level t.kind ≡ lead → (lead ≡ leads.Nothing → ⊥) → FromToken t level line
+  pub from_token : 2 ≤ wide → (t : Token) (level : Level) (line : InLine) (lead : Lead) → lead_of level t.kind ≡ lead → (lead ≡ leads.Nothing → ⊥) → FromToken t level line
   from_token two t level line leads.Dim is some = goes_from t level line leads.Dim is (any_stop line) (goes_dim reach deep t level)
   from_token two t level line leads.Static is some = goes_from t level line leads.Static is (any_stop line) (goes_static reach deep t)
   from_token two t level line leads.Const is some = goes_from t level line leads.Const is (any_stop line) (goes_constant reach deep t)
@@ -251,10 +251,10 @@ near_none deep z [] = inr (inl (refl, refl, λ m. tt))
 near_none deep z (t ∷ ts) = near_by deep z (t ∷ ts) (lead_of z.level t.kind)
 
 -- a statement without statements inside from its first token on
-abbrev Shallow : ℕ → Token → Level → Line → Type 0
+abbrev Shallow : ℕ → Token → Level → InLine → Type 0
 Shallow wide t level line = (m : List Token) × ((r : List Token) → stops line r ≡ true → (x : Stmt) × g.stmt wide (suc zero) level line ((t ∷ m) ++ r) x r)
 
-shallow : (deep : ℕ) → 2 ≤ suc deep → (t : Token) (level : Level) (line : Line) (lead : Lead) → lead_of level t.kind ≡ lead → (lead ≡ leads.Nothing → ⊥) → Shallow (suc deep) t level line
+shallow : (deep : ℕ) → 2 ≤ suc deep → (t : Token) (level : Level) (line : InLine) (lead : Lead) → lead_of level t.kind ≡ lead → (lead ≡ leads.Nothing → ⊥) → Shallow (suc deep) t level line
 shallow deep two t level line lead is some =
     let same = over_near (suc deep) in
     subst (λ (n : ℕ). Shallow n t level line) same

@@ -17,7 +17,7 @@ use Rattle.fb_ast.specs.declared.part.Name.{Name}
 use Rattle.fb_ast.specs.declared.ty.Base.{Base}
 use Rattle.fb_ast.specs.declared.ty.Base.TheVariants as base
 use Rattle.fb_ast.specs.declared.ty.TypeName.{TypeName}
-use Rattle.parse_expr.specs.declared.stop.Stop.TheVariants as stops
+use Rattle.parse_expr.specs.declared.error.ReadErr.TheVariants as read_errs
 use Rattle.parse_expr.specs.Words.{base_of}
 use Rattle.parse_expr.specs.Reading.{first, next, is_mark, is_word, holds, sees, sees_word, expect, expect_word, refusal, refuse, Reader, Outcome, and_then, pure}
 use Rattle.parse_expr.specs.Types.{type_name, type_at, type_from, name, name_at, name_by}
@@ -25,9 +25,9 @@ use Rattle.parse_expr.specs.Expr.{Measured, begins, no_room, expr}
 use Rattle.parse_expr.specs.Grammar.{Is, Expression, written}
 use Rattle.parse_expr.proofs.Sound.{Done, by_test, map_done}
 use Rattle.parse_expr.proofs.Fills.{Failed, FaultOf, Fills, Next, IsFree as FreeOperand, map_failed, failed_pure}
-use Rattle.parse_expr.proofs.Rowed.{here as at_start, a_number, number_is, mark_token, Whole, NoRoom}
+use Rattle.parse_expr.proofs.Completed.{here as at_start, a_number, number_is, mark_token, Whole, NoRoom}
 use Rattle.parse_expr.proofs.Begun.{begun}
-use Rattle.parse_parts.specs.declared.kinds.Line.{Line}
+use Rattle.parse_parts.specs.declared.kinds.InLine.{InLine}
 use Rattle.parse_parts.specs.Steps as reading
 use Rattle.parse_parts.specs.Steps.{place_at, extra, sees_sep, sees_value, no_value, pass_by}
 use Rattle.parse_stmt.specs.Phrases.{Phrase, gives, Then, either, maybe, mark, word, IsName, ty, expression, place}
@@ -146,7 +146,7 @@ from_deep level ts f =
 
 pub value_from : (level : ℕ) → level ≤ 14 → (ts : List Token) → begins level (first ts) ≡ true → ValueFrom level ts
 unfolding expr no_room
-value_from level low ts is = from_deep level ts (subst (λ (b : Bool). Failed {A = Measured} (FaultOf (NoRoom 0) (Whole 0 level) ts) (if b then Err (stops.Fault DeepNesting, ts) else refuse ts)) is (begun 0 level low ts))
+value_from level low ts is = from_deep level ts (subst (λ (b : Bool). Failed {A = Measured} (FaultOf (NoRoom 0) (Whole 0 level) ts) (if b then Err (read_errs.Fault DeepNesting, ts) else refuse ts)) is (begun 0 level low ts))
 
 name_stands : (r : List Token) → any r ≡ true → (n : Name) × IsName (a_name ∷ r) n r
 name_stands r c = (record { at = at_start; text = [] }, record { token = a_name; text = []; is = refl; kind = refl; named = refl })
@@ -179,7 +179,7 @@ module _ {reach : Reach} where
   unfolding expect_word sees_word first
   grows_word which self = grows_taken (sees_word which) (λ ts. Expected) (word_token which) (λ r. self) (λ ts. tt)
 
-  pub grows_sep : (line : Line) → Grows reach (reading.sep line) (phrases.sep line) any
+  pub grows_sep : (line : InLine) → Grows reach (reading.sep line) (phrases.sep line) any
   unfolding reading.sep sees_sep first
   grows_sep line = grows_taken (sees_sep line) extra colon (λ r. refl) (λ ts. starts_extra reach ts colon [] (inl refl))
 
@@ -257,7 +257,7 @@ module _ (reach : Reach) (deep : ℕ) where
   place_begun : (ts : List Token) → sees At ts ≡ false → sees Minus ts ≡ false → (kind : FaultKind) (rest : List Token) → Filled reach deep 14 ts kind rest → Begun reach (place wide) any ts kind rest
   place_begun ts a b kind rest f = place_begun_by ts kind rest f.front f.more f.is a b f.depth f.tree f.within f.are f.starts
 
-  place_at_once : (ts : List Token) → Failed {A = Expr} (Begun reach (place wide) any ts) (Err (stops.Fault Expected, ts))
+  place_at_once : (ts : List Token) → Failed {A = Expr} (Begun reach (place wide) any ts) (Err (read_errs.Fault Expected, ts))
   place_at_once ts = at_once (place wide) any ts Expected (a_number ∷ []) place_stands tt
 
   pub grows_place : Grows reach (reading.place (suc deep)) (place wide) any

@@ -18,11 +18,11 @@ use Rattle.fb_ast.specs.declared.stmt.Storage.{Storage}
 use Rattle.fb_ast.specs.declared.stmt.Storage.TheVariants as storage
 use Rattle.fb_ast.specs.declared.stmt.Test.{Test}
 use Rattle.fb_ast.specs.declared.stmt.Until.{Until}
-use Rattle.parse_expr.specs.declared.stop.Stop.TheVariants as stops
+use Rattle.parse_expr.specs.declared.error.ReadErr.TheVariants as read_errs
 use Rattle.parse_expr.specs.Reading.{first, next, is_mark, same_mark, same_word, sees, sees_word, refusal, refusal_by, Reader, Outcome, and_then, pure, take_token}
 use Rattle.parse_expr.proofs.Sound.{Done, by_test, map_done}
 use Rattle.parse_expr.proofs.Fills.{Failed, failed_then, failed_pure, map_failed}
-use Rattle.parse_expr.proofs.Rowed.{a_number, mark_token}
+use Rattle.parse_expr.proofs.Completed.{a_number, mark_token}
 use Rattle.parse_parts.specs.declared.kinds.Level.{Level}
 use Rattle.parse_parts.specs.Steps.{place_at, sees_value, no_value, pass_by, repeat}
 use Rattle.parse_parts.specs.Steps as steps
@@ -79,7 +79,7 @@ module _ {reach : Reach} where
 
   -- a table of tokens
   chosen_fails : {A B : Type 0} (table : Option Token → Option A) (by : Option A → Reader B) (k : A → Reader B) (K : A → Phrase B) (t : Token) (a : A)
-      → table (Some t) ≡ Some a → ((ts : List Token) → by None ts ≡ Err (stops.Fault Expected, ts)) → ((x : A) (ts : List Token) → by (Some x) ts ≡ k x (next ts))
+      → table (Some t) ≡ Some a → ((ts : List Token) → by None ts ≡ Err (read_errs.Fault Expected, ts)) → ((x : A) (ts : List Token) → by (Some x) ts ≡ k x (next ts))
       → table None ≡ None → ((x : A) → Grows reach (k x) (K x) any)
       → (ts : List Token) (o : Option A) → table (first ts) ≡ o → Failed (Begun reach (Then (Chosen table) K) any ts) (by o ts)
   unfolding first next
@@ -104,7 +104,7 @@ module _ {reach : Reach} where
   chosen_least table k K t a is y r c = let z = y.stands r c in (z.0, record { given = a; between = y.least ++ r; front = record { is = is; behind = refl }; back = z.1 })
 
   chosen_sound : {A B : Type 0} (table : Option Token → Option A) (by : Option A → Reader B) (k : A → Reader B) (K : A → Phrase B)
-      → ((ts : List Token) → by None ts ≡ Err (stops.Fault Expected, ts)) → ((x : A) (ts : List Token) → by (Some x) ts ≡ k x (next ts)) → ((x : A) → Grows reach (k x) (K x) any)
+      → ((ts : List Token) → by None ts ≡ Err (read_errs.Fault Expected, ts)) → ((x : A) (ts : List Token) → by (Some x) ts ≡ k x (next ts)) → ((x : A) → Grows reach (k x) (K x) any)
       → (ts : List Token) (o : Option A) → table (first ts) ≡ o → Done (Then (Chosen table) K ts) (by o ts)
   chosen_sound {B = B} table by k K none some g ts None at = subst (λ (o : Outcome B). Done (Then (Chosen table) K ts) o) (sym (none ts)) tt
   chosen_sound {B = B} table by k K none some g ts (Some x) at =
@@ -112,7 +112,7 @@ module _ {reach : Reach} where
       (map_done (K x (next ts)) (Then (Chosen table) K ts) (k x (next ts)) ((g x).sound (next ts)) (λ y rest z. record { given = x; between = next ts; front = record { is = at; behind = refl }; back = z }))
 
   pub grows_chosen : {A B : Type 0} (table : Option Token → Option A) (by : Option A → Reader B) (k : A → Reader B) (K : A → Phrase B) (t : Token) (a : A)
-      → table (Some t) ≡ Some a → ((ts : List Token) → by None ts ≡ Err (stops.Fault Expected, ts)) → ((x : A) (ts : List Token) → by (Some x) ts ≡ k x (next ts))
+      → table (Some t) ≡ Some a → ((ts : List Token) → by None ts ≡ Err (read_errs.Fault Expected, ts)) → ((x : A) (ts : List Token) → by (Some x) ts ≡ k x (next ts))
       → table None ≡ None → ((x : A) → Grows reach (k x) (K x) any) → Grows reach (λ ts. by (table (first ts)) ts) (Then (Chosen table) K) any
   grows_chosen table by k K t a is none some nothing_there g = record {
     least = t ∷ (g a).least;

@@ -18,8 +18,8 @@ use Rattle.parse_expr.proofs.Sound.{Done, bind, by_test, map_done}
 use Rattle.parse_expr.proofs.Fills.{Failed, failed_then, failed_pure, map_failed}
 use Rattle.parse_expr.proofs.Ends.{no_longer}
 use Rattle.parse_parts.specs.declared.kinds.Level.{Level}
-use Rattle.parse_parts.specs.declared.kinds.Line.{Line}
-use Rattle.parse_parts.specs.declared.kinds.Line.TheVariants as lines
+use Rattle.parse_parts.specs.declared.kinds.InLine.{InLine}
+use Rattle.parse_parts.specs.declared.kinds.InLine.TheVariants as lines
 use Rattle.parse_parts.specs.declared.kinds.Spot.{Spot}
 use Rattle.parse_parts.specs.declared.kinds.Closer.TheVariants as closers
 use Rattle.parse_parts.specs.Words.{level_within, line_within}
@@ -27,24 +27,24 @@ use Rattle.parse_parts.specs.Steps.{place_at, last_before, extra, sees_sep, Turn
 use Rattle.parse_stmt.specs.Blocks.{ended}
 use Rattle.parse_stmt.specs.Blocks as b
 use Rattle.parse_stmt.specs.Phrases.{Phrase, gives, Then, ◌>>◌, either, maybe, word, sep, name, expression}
-use Rattle.parse_stmt.specs.Statements.{none, some, Row, last, another, Many, end_of}
+use Rattle.parse_stmt.specs.Statements.{none, some, Series, last, another, Many, end_of}
 use Rattle.parse_stmt.specs.Statements as g
 use Rattle.parse_stmt.proofs.Heads.{regroup}
 use Rattle.parse_stmt.proofs.Bodies.{Inside, sep_less}
-use Rattle.parse_stmt.proofs.Nested.{exact_if_behind, ended_row, ended_branches, ended_any_else, ended_cases}
+use Rattle.parse_stmt.proofs.Nested.{exact_if_behind, ended_series, ended_branches, ended_any_else, ended_cases}
 use Rattle.parse_stmt.proofs.Ended.{AtToken, AllRead}
 use Rattle.parse_stmt.proofs.Starts.{Reach, over, over_fits, starting, Starts, starts_extra}
-use Rattle.parse_stmt.proofs.Wides.{Wider, widened, wide_many, wide_then_row, wide_else_if, wide_last_else, wide_if_behind, wide_case_branch}
+use Rattle.parse_stmt.proofs.Wides.{Wider, widened, wide_many, wide_then_series, wide_else_if, wide_last_else, wide_if_behind, wide_case_branch}
 use Rattle.parse_stmt.proofs.Likes.{Like, any, Whatever, looks_sep, looks_word, like_then, like_sep, like_word, like_here, like_name, like_expression}
 use Rattle.parse_stmt.proofs.LikeParts.{done, like_end_of, like_for_head, like_cases, like_maybe, like_last_test, like_test}
-use Rattle.parse_stmt.proofs.LikeStmts.{stops, like_if_behind, row_no_sep, like_many, like_branch, like_else_if, like_last_else, like_case_branch, like_then_row, like_for_tail, free_stops}
+use Rattle.parse_stmt.proofs.LikeStmts.{stops, like_if_behind, series_no_sep, like_many, like_branch, like_else_if, like_last_else, like_case_branch, like_then_series, like_for_tail, free_stops}
 use Rattle.parse_stmt.proofs.Grows.{Begun, Grows, grows_gives, grows_then, grows_made, next_shorter, at_once}
 use Rattle.parse_stmt.proofs.GrowParts.{word_token, colon, grows_word, grows_sep, grows_here, grows_whole, grows_any_name}
 use Rattle.parse_stmt.proofs.GrowSimple.{Goes, goes, grows_for_head, grows_any_test, grows_last_test, grows_cases}
 use Rattle.parse_stmt.proofs.GrowBlocks.{OrCut, whole_begun, Closes, an_end, close_first, GrowsE, Least, e_then, e_made, failed_with, EndOf, end_within, Nothing, Elsewhere, StmtFault, EndStands, closing_made, e_body, like_the_body, body_least, grows_loop}
 
-module _ (reach : Reach) (deep : ℕ) (inner : Spot → Reader Stmt) (room : ℕ) (Inner : Level → Line → Phrase Stmt) (inside : Inside inner room Inner)
-    (Outer : Level → Line → Phrase Stmt) (widens : (level : Level) (line : Line) → Wider (Inner level line) (Outer level line)) (l : (level : Level) (line : Line) → Like (Outer level line) (Outer level line) Whatever (stops line))
+module _ (reach : Reach) (deep : ℕ) (inner : Spot → Reader Stmt) (room : ℕ) (Inner : Level → InLine → Phrase Stmt) (inside : Inside inner room Inner)
+    (Outer : Level → InLine → Phrase Stmt) (widens : (level : Level) (line : InLine) → Wider (Inner level line) (Outer level line)) (l : (level : Level) (line : InLine) → Like (Outer level line) (Outer level line) Whatever (stops line))
     (inner_fails : (spot : Spot) (ts : List Token) → Failed (StmtFault reach (Outer spot.level spot.line) spot.line room spot.other ts) (inner spot ts)) (ends : EndStands reach (over reach (suc deep)) Outer) where
   abbrev most : ℕ
   most = suc deep
@@ -57,7 +57,7 @@ module _ (reach : Reach) (deep : ℕ) (inner : Spot → Reader Stmt) (room : ℕ
 
   -- ---- loops
 
-  module _ (level : Level) (line : Line) (end : EndOf line) where
+  module _ (level : Level) (line : InLine) (end : EndOf line) where
     grows_for_tail : Grows reach (b.for_tail most inner room level line) (g.for_tail wide Outer level line) any
     unfolding b.for_tail same_word
     grows_for_tail = grows_then (grows_sep line) (like_sep line)
@@ -105,7 +105,7 @@ module _ (reach : Reach) (deep : ℕ) (inner : Spot → Reader Stmt) (room : ℕ
       failed_then (P ts) (Begun reach (Then P K) any ts) (q ts) kk (x.sound ts) (map_failed (OrCut reach P ts) (Begun reach (Then P K) any ts) (q ts) (x.fails ts) (close_first m closes ts))
       (λ a mid is. map_failed (Begun reach (K a) any mid) (Begun reach (Then P K) any ts) (kk a mid) (fails a mid) (whole_begun ll (λ c d r. mm c d) ts a mid is))
 
-  module _ (level : Level) (line : Line) (end : EndOf line) where
+  module _ (level : Level) (line : InLine) (end : EndOf line) where
     -- ---- Scope
 
     grows_in_scope : (t : Token) → Grows reach (λ ts. and_then (b.body most inner room level line closers.Scope ts) (λ a. λ us. and_then (b.end_of w.KwScope us) (λ x. pure (k.Scope t.at a)))) (Then (g.body wide Outer level line) (λ a. Then (end_of w.KwScope) (λ x. gives (k.Scope t.at a)))) any
@@ -420,28 +420,28 @@ module _ (reach : Reach) (deep : ℕ) (inner : Spot → Reader Stmt) (room : ℕ
   -- ---- the one-line If
 
   module _ (level : Level) where
-    abbrev row_one : Phrase Stmt
-    row_one = Outer level lines.Row
+    abbrev series_one : Phrase Stmt
+    series_one = Outer level lines.Series
 
-    abbrev row_spot : FaultKind → Spot
-    row_spot other = record { level = level; line = lines.Row; other = other }
+    abbrev series_spot : FaultKind → Spot
+    series_spot other = record { level = level; line = lines.Series; other = other }
 
-    abbrev RowBegun : List Token → FaultKind → List Token → Type 0
-    RowBegun ts kind rest = Begun reach (Row row_one) (stops lines.Row) ts kind rest
+    abbrev SeriesBegun : List Token → FaultKind → List Token → Type 0
+    SeriesBegun ts kind rest = Begun reach (Series series_one) (stops lines.Series) ts kind rest
 
-    -- behind a colon, behind a statement of a row
-    abbrev RowTail : List Token → FaultKind → List Token → Type 0
-    RowTail mid kind rest = (sees_sep lines.Row mid ≡ true) × RowBegun (next mid) kind rest
+    -- behind a colon, behind a statement of a series
+    abbrev SeriesTail : List Token → FaultKind → List Token → Type 0
+    SeriesTail mid kind rest = (sees_sep lines.Series mid ≡ true) × SeriesBegun (next mid) kind rest
 
-    one_of_row : (ts : List Token) (kind : FaultKind) (rest : List Token) → Begun reach row_one (stops lines.Row) ts kind rest → RowBegun ts kind rest
-    one_of_row ts kind rest f = record { front = f.front; more = f.more; is = f.is; stands = λ r c. let y = f.stands r c in (y.0 ∷ [], last ((f.front ++ f.more) ++ r) r y.0 y.1 (row_no_sep r c).0); starts = f.starts }
+    one_of_series : (ts : List Token) (kind : FaultKind) (rest : List Token) → Begun reach series_one (stops lines.Series) ts kind rest → SeriesBegun ts kind rest
+    one_of_series ts kind rest f = record { front = f.front; more = f.more; is = f.is; stands = λ r c. let y = f.stands r c in (y.0 ∷ [], last ((f.front ++ f.more) ++ r) r y.0 y.1 (series_no_sep r c).0); starts = f.starts }
 
     -- a statement that is read, and what is behind it
-    row_behind : (ts : List Token) (x : Stmt) (mid : List Token) → row_one ts x mid → (kind : FaultKind) (rest : List Token) → RowTail mid kind rest → RowBegun ts kind rest
+    series_behind : (ts : List Token) (x : Stmt) (mid : List Token) → series_one ts x mid → (kind : FaultKind) (rest : List Token) → SeriesTail mid kind rest → SeriesBegun ts kind rest
     unfolding next first
-    row_behind ts x [] is kind rest f = let bad : true ≡ false = sym f.0 ∙ (looks_sep lines.Row).nothing in cc
-    row_behind ts x (c ∷ mid) is kind rest f =
-        let s = (l level lines.Row).within ts x (c ∷ mid) is in
+    series_behind ts x [] is kind rest f = let bad : true ≡ false = sym f.0 ∙ (looks_sep lines.Series).nothing in cc
+    series_behind ts x (c ∷ mid) is kind rest f =
+        let s = (l level lines.Series).within ts x (c ∷ mid) is in
         let d = f.1 in
         record {
           front = s.front ++ c ∷ d.front;
@@ -450,70 +450,70 @@ module _ (reach : Reach) (deep : ℕ) (inner : Spot → Reader Stmt) (room : ℕ
           stands = λ r cr.
               let y = d.stands r cr in
               let z = (d.front ++ d.more) ++ r in
-              let n = (l level lines.Row).moves s.front (c ∷ mid) (c ∷ z) x (subst (λ (xs : List Token). row_one xs x (c ∷ mid)) s.is is) (inl refl) in
+              let n = (l level lines.Series).moves s.front (c ∷ mid) (c ∷ z) x (subst (λ (xs : List Token). series_one xs x (c ∷ mid)) s.is is) (inl refl) in
               let same : s.front ++ (c ∷ z) ≡ ((s.front ++ c ∷ d.front) ++ d.more) ++ r = sym (append_assoc s.front (c ∷ (d.front ++ d.more)) r) ∙ ap (λ (xs : List Token). xs ++ r) (sym (append_assoc s.front (c ∷ d.front) d.more)) in
-              (n.0 ∷ y.0, another (((s.front ++ c ∷ d.front) ++ d.more) ++ r) (c ∷ z) r n.0 y.0 (subst (λ (xs : List Token). row_one xs n.0 (c ∷ z)) same n.1) ((looks_sep lines.Row).alone c z mid ∙ f.0) y.1);
+              (n.0 ∷ y.0, another (((s.front ++ c ∷ d.front) ++ d.more) ++ r) (c ∷ z) r n.0 y.0 (subst (λ (xs : List Token). series_one xs n.0 (c ∷ z)) same n.1) ((looks_sep lines.Series).alone c z mid ∙ f.0) y.1);
           starts = d.starts;
         }
 
-    abbrev more_rows : ℕ → List Stmt × Bool → Reader (List Stmt)
-    more_rows n q = if q.1 then repeat (b.row_turn most inner room level) n q.0 else pure q.0
+    abbrev more_series : ℕ → List Stmt × Bool → Reader (List Stmt)
+    more_series n q = if q.1 then repeat (b.series_turn most inner room level) n q.0 else pure q.0
 
-    some_room : (room == 0) ≡ false → (kind : FaultKind) (rest ts : List Token) → StmtFault reach row_one lines.Row room Expected ts kind rest → RowBegun ts kind rest
-    some_room some_there kind rest ts (inl f) = one_of_row ts kind rest f
+    some_room : (room == 0) ≡ false → (kind : FaultKind) (rest ts : List Token) → StmtFault reach series_one lines.Series room Expected ts kind rest → SeriesBegun ts kind rest
+    some_room some_there kind rest ts (inl f) = one_of_series ts kind rest f
     some_room some_there kind rest ts (inr (inl n)) = let bad : true ≡ false = sym n.0 ∙ some_there in cc
     some_room some_there kind rest ts (inr (inr e)) = absurd (e.2 refl)
 
-    row_read : (other : FaultKind) (ts : List Token) → Done (λ x rest. Inner level lines.Row ts x rest × row_one ts x rest) (inner (row_spot other) ts)
-    row_read other ts = map_done (Inner level lines.Row ts) (λ x rest. Inner level lines.Row ts x rest × row_one ts x rest) (inner (row_spot other) ts) ((inside.exact level lines.Row other).sound ts) (λ x rest p. (p, (widens level lines.Row).to ts x rest p))
+    series_read : (other : FaultKind) (ts : List Token) → Done (λ x rest. Inner level lines.Series ts x rest × series_one ts x rest) (inner (series_spot other) ts)
+    series_read other ts = map_done (Inner level lines.Series ts) (λ x rest. Inner level lines.Series ts x rest × series_one ts x rest) (inner (series_spot other) ts) ((inside.exact level lines.Series other).sound ts) (λ x rest p. (p, (widens level lines.Series).to ts x rest p))
 
-    rows_fail : (room == 0) ≡ false → (n : ℕ) (found : List Stmt) (mid : List Token) → length mid < n → Failed (RowTail mid) (repeat (b.row_turn most inner room level) n found mid)
-    unfolding repeat b.row_turn
-    rows_fail some_there zero found mid less = absurd (omega arith)
-    rows_fail some_there (suc n) found mid less =
-        by_test (λ (o : Outcome (List Stmt × Bool)). Failed (RowTail mid) (and_then o (more_rows n))) (sees_sep lines.Row mid) _ _
-        (λ is. subst (λ (o : Outcome (List Stmt)). Failed (RowTail mid) o) (regroup (inner (row_spot Expected) (next mid)) (λ x rest. Ok ((found ++ x ∷ [], true), rest)) (more_rows n))
-        (failed_then (λ x rest. Inner level lines.Row (next mid) x rest × row_one (next mid) x rest) (RowTail mid) (inner (row_spot Expected) (next mid)) (λ x rest. repeat (b.row_turn most inner room level) n (found ++ x ∷ []) rest) (row_read Expected (next mid))
-        (map_failed (StmtFault reach row_one lines.Row room Expected (next mid)) (RowTail mid) (inner (row_spot Expected) (next mid)) (inner_fails (row_spot Expected) (next mid)) (λ kind rest f. (is, some_room some_there kind rest (next mid) f)))
+    series_fail : (room == 0) ≡ false → (n : ℕ) (found : List Stmt) (mid : List Token) → length mid < n → Failed (SeriesTail mid) (repeat (b.series_turn most inner room level) n found mid)
+    unfolding repeat b.series_turn
+    series_fail some_there zero found mid less = absurd (omega arith)
+    series_fail some_there (suc n) found mid less =
+        by_test (λ (o : Outcome (List Stmt × Bool)). Failed (SeriesTail mid) (and_then o (more_series n))) (sees_sep lines.Series mid) _ _
+        (λ is. subst (λ (o : Outcome (List Stmt)). Failed (SeriesTail mid) o) (regroup (inner (series_spot Expected) (next mid)) (λ x rest. Ok ((found ++ x ∷ [], true), rest)) (more_series n))
+        (failed_then (λ x rest. Inner level lines.Series (next mid) x rest × series_one (next mid) x rest) (SeriesTail mid) (inner (series_spot Expected) (next mid)) (λ x rest. repeat (b.series_turn most inner room level) n (found ++ x ∷ []) rest) (series_read Expected (next mid))
+        (map_failed (StmtFault reach series_one lines.Series room Expected (next mid)) (SeriesTail mid) (inner (series_spot Expected) (next mid)) (inner_fails (series_spot Expected) (next mid)) (λ kind rest f. (is, some_room some_there kind rest (next mid) f)))
         (λ x m2 read.
-        let shorter = sep_less lines.Row mid is in
-        let within = no_longer ((l level lines.Row).within (next mid) x m2 read.1) in
-        map_failed (RowTail m2) (RowTail mid) (repeat (b.row_turn most inner room level) n (found ++ x ∷ []) m2) (rows_fail some_there n (found ++ x ∷ []) m2 (omega arith)) (λ kind rest f. (is, row_behind (next mid) x m2 read.1 kind rest f)))))
+        let shorter = sep_less lines.Series mid is in
+        let within = no_longer ((l level lines.Series).within (next mid) x m2 read.1) in
+        map_failed (SeriesTail m2) (SeriesTail mid) (repeat (b.series_turn most inner room level) n (found ++ x ∷ []) m2) (series_fail some_there n (found ++ x ∷ []) m2 (omega arith)) (λ kind rest f. (is, series_behind (next mid) x m2 read.1 kind rest f)))))
         (λ is. tt)
 
     abbrev NotBegun : FaultKind → List Token → FaultKind → List Token → Type 0
     NotBegun other ts kind rest = Nothing reach room ts kind rest ⊎ Elsewhere other ts kind rest
 
-    abbrev RowFault : FaultKind → List Token → FaultKind → List Token → Type 0
-    RowFault other ts kind rest = RowBegun ts kind rest ⊎ NotBegun other ts kind rest
+    abbrev SeriesFault : FaultKind → List Token → FaultKind → List Token → Type 0
+    SeriesFault other ts kind rest = SeriesBegun ts kind rest ⊎ NotBegun other ts kind rest
 
-    row_stmt_fault : (other : FaultKind) (ts : List Token) (kind : FaultKind) (rest : List Token) → StmtFault reach row_one lines.Row room other ts kind rest → RowFault other ts kind rest
-    row_stmt_fault other ts kind rest (inl f) = inl (one_of_row ts kind rest f)
-    row_stmt_fault other ts kind rest (inr n) = inr n
+    series_stmt_fault : (other : FaultKind) (ts : List Token) (kind : FaultKind) (rest : List Token) → StmtFault reach series_one lines.Series room other ts kind rest → SeriesFault other ts kind rest
+    series_stmt_fault other ts kind rest (inl f) = inl (one_of_series ts kind rest f)
+    series_stmt_fault other ts kind rest (inr n) = inr n
 
-    row_fails : (other : FaultKind) (ts : List Token) → Failed (RowFault other ts) (b.row most inner room level other ts)
-    unfolding b.row b.row_from
-    row_fails other ts =
-        failed_then (λ x rest. Inner level lines.Row ts x rest × row_one ts x rest) (RowFault other ts) (inner (row_spot other) ts) _ (row_read other ts)
-        (map_failed (StmtFault reach row_one lines.Row room other ts) (RowFault other ts) (inner (row_spot other) ts) (inner_fails (row_spot other) ts) (row_stmt_fault other ts))
-        (λ x mid read. map_failed (RowTail mid) (RowFault other ts) (repeat (b.row_turn most inner room level) (length mid + 1) (x ∷ []) mid) (rows_fail (inside.deep level lines.Row ts x mid read.0) (length mid + 1) (x ∷ []) mid (omega arith)) (λ kind rest f. inl (row_behind ts x mid read.1 kind rest f)))
+    series_fails : (other : FaultKind) (ts : List Token) → Failed (SeriesFault other ts) (b.series most inner room level other ts)
+    unfolding b.series b.series_from
+    series_fails other ts =
+        failed_then (λ x rest. Inner level lines.Series ts x rest × series_one ts x rest) (SeriesFault other ts) (inner (series_spot other) ts) _ (series_read other ts)
+        (map_failed (StmtFault reach series_one lines.Series room other ts) (SeriesFault other ts) (inner (series_spot other) ts) (inner_fails (series_spot other) ts) (series_stmt_fault other ts))
+        (λ x mid read. map_failed (SeriesTail mid) (SeriesFault other ts) (repeat (b.series_turn most inner room level) (length mid + 1) (x ∷ []) mid) (series_fail (inside.deep level lines.Series ts x mid read.0) (length mid + 1) (x ∷ []) mid (omega arith)) (λ kind rest f. inl (series_behind ts x mid read.1 kind rest f)))
 
-    -- a row was read, so statements can be deep enough
-    row_some : (ts : List Token) (all : List Stmt) (rest : List Token) → Row (Inner level lines.Row) ts all rest → (room == 0) ≡ false
-    row_some ts all rest (last a c x p apart) = inside.deep level lines.Row ts x rest p
-    row_some ts all rest (another a between c x more p is q) = inside.deep level lines.Row ts x between p
+    -- a series was read, so statements can be deep enough
+    series_some : (ts : List Token) (all : List Stmt) (rest : List Token) → Series (Inner level lines.Series) ts all rest → (room == 0) ≡ false
+    series_some ts all rest (last a c x p apart) = inside.deep level lines.Series ts x rest p
+    series_some ts all rest (another a between c x more p is q) = inside.deep level lines.Series ts x between p
 
-    abbrev IfRow : Span → Expr → Phrase Stmt
-    IfRow at condition = g.if_row wide Outer at condition level
+    abbrev IfSeries : Span → Expr → Phrase Stmt
+    IfSeries at condition = g.if_series wide Outer at condition level
 
     abbrev Other : Phrase (Option (Span × Block))
-    Other = g.row_other wide Outer level
+    Other = g.series_other wide Outer level
 
-    no_else_there : (r : List Token) → stops lines.Row r ≡ true → (if sees_word w.KwElse r then false else true) ≡ true
-    no_else_there r c = rw ((row_no_sep r c).1) refl
+    no_else_there : (r : List Token) → stops lines.Series r ≡ true → (if sees_word w.KwElse r then false else true) ≡ true
+    no_else_there r c = rw ((series_no_sep r c).1) refl
 
-    if_of_row : (at : Span) (condition : Expr) (ts : List Token) (kind : FaultKind) (rest : List Token) → RowBegun ts kind rest → Begun reach (IfRow at condition) (stops lines.Row) ts kind rest
-    if_of_row at condition ts kind rest f = record {
+    if_of_series : (at : Span) (condition : Expr) (ts : List Token) (kind : FaultKind) (rest : List Token) → SeriesBegun ts kind rest → Begun reach (IfSeries at condition) (stops lines.Series) ts kind rest
+    if_of_series at condition ts kind rest f = record {
       front = f.front;
       more = f.more;
       is = f.is;
@@ -530,14 +530,14 @@ module _ (reach : Reach) (deep : ℕ) (inner : Spot → Reader Stmt) (room : ℕ
       pub front : List Token
       pub more : List Token
       pub is : ts ≡ front ++ rest
-      pub stands : (r : List Token) → stops lines.Row r ≡ true → (a : Option (Span × Block)) × Other ((front ++ more) ++ r) a r
+      pub stands : (r : List Token) → stops lines.Series r ≡ true → (a : Option (Span × Block)) × Other ((front ++ more) ++ r) a r
       pub same_first : (r : List Token) → first ((front ++ more) ++ r) ≡ first ts
       pub starts : Starts reach kind rest more
 
-    else_row_begun : (ts : List Token) → sees_word w.KwElse ts ≡ true → (kind : FaultKind) (rest : List Token) → RowBegun (next ts) kind rest → OtherBegun ts kind rest
+    else_series_begun : (ts : List Token) → sees_word w.KwElse ts ≡ true → (kind : FaultKind) (rest : List Token) → SeriesBegun (next ts) kind rest → OtherBegun ts kind rest
     unfolding next place_at first
-    else_row_begun [] is kind rest f = let bad : true ≡ false = sym is ∙ (looks_word w.KwElse).nothing in cc
-    else_row_begun (t ∷ ts) is kind rest f = record {
+    else_series_begun [] is kind rest f = let bad : true ≡ false = sym is ∙ (looks_word w.KwElse).nothing in cc
+    else_series_begun (t ∷ ts) is kind rest f = record {
       front = t ∷ f.front;
       more = f.more;
       is = ap (λ (xs : List Token). t ∷ xs) f.is;
@@ -550,33 +550,33 @@ module _ (reach : Reach) (deep : ℕ) (inner : Spot → Reader Stmt) (room : ℕ
       starts = f.starts;
     }
 
-    only_begun : (room == 0) ≡ false → (ts : List Token) (kind : FaultKind) (rest : List Token) → RowFault Expected ts kind rest → RowBegun ts kind rest
+    only_begun : (room == 0) ≡ false → (ts : List Token) (kind : FaultKind) (rest : List Token) → SeriesFault Expected ts kind rest → SeriesBegun ts kind rest
     only_begun some_there ts kind rest (inl f) = f
     only_begun some_there ts kind rest (inr (inl n)) = let bad : true ≡ false = sym n.0 ∙ some_there in cc
     only_begun some_there ts kind rest (inr (inr e)) = absurd (e.2 refl)
 
-    other_fails : (room == 0) ≡ false → (ts : List Token) → Failed (OtherBegun ts) (b.row_other most inner room level ts)
-    unfolding b.row_other b.row_else
+    other_fails : (room == 0) ≡ false → (ts : List Token) → Failed (OtherBegun ts) (b.series_other most inner room level ts)
+    unfolding b.series_other b.series_else
     other_fails some_there ts =
         by_test (λ (o : Outcome (Option (Span × Block))). Failed (OtherBegun ts) o) (sees_word w.KwElse ts) _ _
         (λ is. failed_pure (OtherBegun ts) _ (λ (a : Block). Some (place_at ts, a))
-        (failed_with (OtherBegun ts) (b.row most inner room level Expected (next ts)) (λ (all : List Stmt) (rest : List Token). roll-Block (record { stmts = all; end = last_before (next ts) rest }))
-        (map_failed (RowFault Expected (next ts)) (OtherBegun ts) (b.row most inner room level Expected (next ts)) (row_fails Expected (next ts)) (λ kind rest f. else_row_begun ts is kind rest (only_begun some_there (next ts) kind rest f)))))
+        (failed_with (OtherBegun ts) (b.series most inner room level Expected (next ts)) (λ (all : List Stmt) (rest : List Token). roll-Block (record { stmts = all; end = last_before (next ts) rest }))
+        (map_failed (SeriesFault Expected (next ts)) (OtherBegun ts) (b.series most inner room level Expected (next ts)) (series_fails Expected (next ts)) (λ kind rest f. else_series_begun ts is kind rest (only_begun some_there (next ts) kind rest f)))))
         (λ is. tt)
 
     abbrev IfFault : Span → Expr → List Token → FaultKind → List Token → Type 0
-    IfFault at condition ts kind rest = Begun reach (IfRow at condition) (stops lines.Row) ts kind rest ⊎ NotBegun ExtraText ts kind rest
+    IfFault at condition ts kind rest = Begun reach (IfSeries at condition) (stops lines.Series) ts kind rest ⊎ NotBegun ExtraText ts kind rest
 
-    row_if : (at : Span) (condition : Expr) (ts : List Token) (kind : FaultKind) (rest : List Token) → RowFault ExtraText ts kind rest → IfFault at condition ts kind rest
-    row_if at condition ts kind rest (inl f) = inl (if_of_row at condition ts kind rest f)
-    row_if at condition ts kind rest (inr n) = inr n
+    series_if : (at : Span) (condition : Expr) (ts : List Token) (kind : FaultKind) (rest : List Token) → SeriesFault ExtraText ts kind rest → IfFault at condition ts kind rest
+    series_if at condition ts kind rest (inl f) = inl (if_of_series at condition ts kind rest f)
+    series_if at condition ts kind rest (inr n) = inr n
 
-    -- behind the row that is read
-    if_behind_begun : (at : Span) (condition : Expr) (ts : List Token) (one_block : Block) (mid : List Token) → g.then_row wide Outer level ts one_block mid → (kind : FaultKind) (rest : List Token) → OtherBegun mid kind rest
-        → Begun reach (IfRow at condition) (stops lines.Row) ts kind rest
+    -- behind the series that is read
+    if_behind_begun : (at : Span) (condition : Expr) (ts : List Token) (one_block : Block) (mid : List Token) → g.then_series wide Outer level ts one_block mid → (kind : FaultKind) (rest : List Token) → OtherBegun mid kind rest
+        → Begun reach (IfSeries at condition) (stops lines.Series) ts kind rest
     unfolding first
     if_behind_begun at condition ts one_block mid is kind rest f =
-        let ll = like_then_row wide Outer l level in
+        let ll = like_then_series wide Outer l level in
         let s = ll.within ts one_block mid is in
         record {
           front = s.front ++ f.front;
@@ -585,37 +585,37 @@ module _ (reach : Reach) (deep : ℕ) (inner : Spot → Reader Stmt) (room : ℕ
           stands = λ r c.
               let x = (f.front ++ f.more) ++ r in
               let y = f.stands r c in
-              let n = ll.moves s.front mid x one_block (subst (λ (xs : List Token). g.then_row wide Outer level xs one_block mid) s.is is) (inl (f.same_first r)) in
+              let n = ll.moves s.front mid x one_block (subst (λ (xs : List Token). g.then_series wide Outer level xs one_block mid) s.is is) (inl (f.same_first r)) in
               let same : s.front ++ x ≡ ((s.front ++ f.front) ++ f.more) ++ r = sym (append_assoc s.front (f.front ++ f.more) r) ∙ ap (λ (xs : List Token). xs ++ r) (sym (append_assoc s.front f.front f.more)) in
-              (k.IfLine at condition n.0 y.0, record { given = n.0; between = x; front = subst (λ (xs : List Token). g.then_row wide Outer level xs n.0 x) same n.1; back = record { given = y.0; between = r; front = y.1; back = (refl, refl) } });
+              (k.IfLine at condition n.0 y.0, record { given = n.0; between = x; front = subst (λ (xs : List Token). g.then_series wide Outer level xs n.0 x) same n.1; back = record { given = y.0; between = r; front = y.1; back = (refl, refl) } });
           starts = f.starts;
         }
 
-    if_row_fails : (at : Span) (condition : Expr) (ts : List Token) → Failed (IfFault at condition ts) (b.if_row most inner room at condition level ts)
-    unfolding b.if_row b.row_then b.row_end
-    if_row_fails at condition ts =
-        failed_then (g.then_row most Inner level ts) (IfFault at condition ts) _ _ (bind (Row (Inner level lines.Row) ts) (g.then_row most Inner level ts) (b.row most inner room level ExtraText ts) _ ((ended_row deep inner room Inner inside level ExtraText).sound ts) (λ all rest read. (all, read, refl)))
-        (failed_with (IfFault at condition ts) (b.row most inner room level ExtraText ts) (λ (all : List Stmt) (rest : List Token). roll-Block (record { stmts = all; end = if sees_word w.KwElse rest then place_at rest else last_before ts rest }))
-        (map_failed (RowFault ExtraText ts) (IfFault at condition ts) (b.row most inner room level ExtraText ts) (row_fails ExtraText ts) (row_if at condition ts)))
-        (λ a mid read. failed_pure (IfFault at condition ts) (b.row_other most inner room level mid) (λ (o : Option (Span × Block)). k.IfLine at condition a o)
-        (map_failed (OtherBegun mid) (IfFault at condition ts) (b.row_other most inner room level mid) (other_fails (row_some ts read.0 mid read.1) mid)
-        (λ kind rest f. inl (if_behind_begun at condition ts a mid ((wide_then_row most wide fits Inner Outer widens level).to ts a mid read) kind rest f))))
+    if_series_fails : (at : Span) (condition : Expr) (ts : List Token) → Failed (IfFault at condition ts) (b.if_series most inner room at condition level ts)
+    unfolding b.if_series b.series_then b.series_end
+    if_series_fails at condition ts =
+        failed_then (g.then_series most Inner level ts) (IfFault at condition ts) _ _ (bind (Series (Inner level lines.Series) ts) (g.then_series most Inner level ts) (b.series most inner room level ExtraText ts) _ ((ended_series deep inner room Inner inside level ExtraText).sound ts) (λ all rest read. (all, read, refl)))
+        (failed_with (IfFault at condition ts) (b.series most inner room level ExtraText ts) (λ (all : List Stmt) (rest : List Token). roll-Block (record { stmts = all; end = if sees_word w.KwElse rest then place_at rest else last_before ts rest }))
+        (map_failed (SeriesFault ExtraText ts) (IfFault at condition ts) (b.series most inner room level ExtraText ts) (series_fails ExtraText ts) (series_if at condition ts)))
+        (λ a mid read. failed_pure (IfFault at condition ts) (b.series_other most inner room level mid) (λ (o : Option (Span × Block)). k.IfLine at condition a o)
+        (map_failed (OtherBegun mid) (IfFault at condition ts) (b.series_other most inner room level mid) (other_fails (series_some ts read.0 mid read.1) mid)
+        (λ kind rest f. inl (if_behind_begun at condition ts a mid ((wide_then_series most wide fits Inner Outer widens level).to ts a mid read) kind rest f))))
 
   -- ---- If
 
-  abbrev IfBehind : Span → Level → Line → Expr → Phrase Stmt
+  abbrev IfBehind : Span → Level → InLine → Expr → Phrase Stmt
   IfBehind at level line condition = either (sep line >> g.if_block wide Outer at condition (level_within level) (line_within line)) (g.if_line wide Outer line at condition (level_within level))
 
   -- a block without statements
-  if_least : (at : Span) (level : Level) (line : Line) (condition : Expr) (r : List Token) → (x : Stmt) × IfBehind at level line condition ((colon ∷ an_end ∷ word_token w.KwIf ∷ []) ++ r) x r
+  if_least : (at : Span) (level : Level) (line : InLine) (condition : Expr) (r : List Token) → (x : Stmt) × IfBehind at level line condition ((colon ∷ an_end ∷ word_token w.KwIf ∷ []) ++ r) x r
   unfolding sees_sep first next
   if_least at level line condition r = let y = if_block_closes (level_within level) (line_within line) (end_within line) at condition an_end refl r in (y.0, inl (record { given = tt; between = an_end ∷ word_token w.KwIf ∷ r; front = (refl, refl); back = y.1 }))
 
-  if_at_once : (at : Span) (level : Level) (line : Line) (condition : Expr) (ts : List Token) (kind : FaultKind) → Starts reach kind ts (colon ∷ an_end ∷ word_token w.KwIf ∷ []) → Begun reach (IfBehind at level line condition) (stops line) ts kind ts
+  if_at_once : (at : Span) (level : Level) (line : InLine) (condition : Expr) (ts : List Token) (kind : FaultKind) → Starts reach kind ts (colon ∷ an_end ∷ word_token w.KwIf ∷ []) → Begun reach (IfBehind at level line condition) (stops line) ts kind ts
   if_at_once at level line condition ts kind starts = at_once (IfBehind at level line condition) (stops line) ts kind (colon ∷ an_end ∷ word_token w.KwIf ∷ []) (λ r c. if_least at level line condition r) starts
 
   -- no statement is begun behind Then: a colon may stand there
-  if_instead : (at : Span) (level : Level) (line : Line) (condition : Expr) (ts : List Token) (kind : FaultKind) (rest : List Token) → NotBegun (level_within level) ExtraText ts kind rest → Begun reach (IfBehind at level line condition) (stops line) ts kind rest
+  if_instead : (at : Span) (level : Level) (line : InLine) (condition : Expr) (ts : List Token) (kind : FaultKind) (rest : List Token) → NotBegun (level_within level) ExtraText ts kind rest → Begun reach (IfBehind at level line condition) (stops line) ts kind rest
   if_instead at level line condition ts kind rest (inl n) =
       subst (λ (xs : List Token). Begun reach (IfBehind at level line condition) (stops line) ts kind xs) (sym n.1)
       (if_at_once at level line condition ts kind (subst (λ (xs : List Token). Starts reach kind xs (colon ∷ an_end ∷ word_token w.KwIf ∷ [])) n.1 (n.2 (colon ∷ an_end ∷ word_token w.KwIf ∷ []))))
@@ -623,7 +623,7 @@ module _ (reach : Reach) (deep : ℕ) (inner : Spot → Reader Stmt) (room : ℕ
       subst (λ (xs : List Token). Begun reach (IfBehind at level line condition) (stops line) ts kind xs) (sym e.0)
       (if_at_once at level line condition ts kind (subst (λ (k : FaultKind). Starts reach k ts (colon ∷ an_end ∷ word_token w.KwIf ∷ [])) (sym e.1) (starting colon (an_end ∷ word_token w.KwIf ∷ []) (inl refl))))
 
-  sep_begun : {B : Type 0} (line : Line) (K Q : Phrase B) (C : List Token → Bool) (ts : List Token) → sees_sep line ts ≡ true → (kind : FaultKind) (rest : List Token) → Begun reach K any (next ts) kind rest → Begun reach (either (Then (sep line) (λ (u : Unit {0}). K)) Q) C ts kind rest
+  sep_begun : {B : Type 0} (line : InLine) (K Q : Phrase B) (C : List Token → Bool) (ts : List Token) → sees_sep line ts ≡ true → (kind : FaultKind) (rest : List Token) → Begun reach K any (next ts) kind rest → Begun reach (either (Then (sep line) (λ (u : Unit {0}). K)) Q) C ts kind rest
   unfolding next
   sep_begun line K Q C [] is kind rest f = let bad : true ≡ false = sym is ∙ (looks_sep line).nothing in cc
   sep_begun line K Q C (t ∷ ts) is kind rest f = record {
@@ -638,16 +638,16 @@ module _ (reach : Reach) (deep : ℕ) (inner : Spot → Reader Stmt) (room : ℕ
   free_fault at level condition ts kind rest (inl f) = record { front = f.front; more = f.more; is = f.is; stands = λ r c. let y = f.stands r (free_stops r c) in (y.0, inr y.1); starts = f.starts }
   free_fault at level condition ts kind rest (inr n) = if_instead at level lines.Free condition ts kind rest n
 
-  row_fault : (at : Span) (level : Level) (condition : Expr) (ts : List Token) (kind : FaultKind) (rest : List Token) → IfFault (level_within level) at condition ts kind rest → Begun reach (IfBehind at level lines.Row condition) (stops lines.Row) ts kind rest
-  row_fault at level condition ts kind rest (inl f) = record { front = f.front; more = f.more; is = f.is; stands = λ r c. let y = f.stands r c in (y.0, inr y.1); starts = f.starts }
-  row_fault at level condition ts kind rest (inr n) = if_instead at level lines.Row condition ts kind rest n
+  production_fault : (at : Span) (level : Level) (condition : Expr) (ts : List Token) (kind : FaultKind) (rest : List Token) → IfFault (level_within level) at condition ts kind rest → Begun reach (IfBehind at level lines.Series condition) (stops lines.Series) ts kind rest
+  production_fault at level condition ts kind rest (inl f) = record { front = f.front; more = f.more; is = f.is; stands = λ r c. let y = f.stands r c in (y.0, inr y.1); starts = f.starts }
+  production_fault at level condition ts kind rest (inr n) = if_instead at level lines.Series condition ts kind rest n
 
-  if_by_fails : (at : Span) (level : Level) (line : Line) (condition : Expr) (ts : List Token) → Failed (Begun reach (IfBehind at level line condition) (stops line) ts) (b.if_by most inner room line at condition (level_within level) ts)
-  if_by_fails at level lines.Free condition ts = map_failed (IfFault (level_within level) at condition ts) (Begun reach (IfBehind at level lines.Free condition) (stops lines.Free) ts) (b.if_row most inner room at condition (level_within level) ts) (if_row_fails (level_within level) at condition ts) (free_fault at level condition ts)
-  if_by_fails at level lines.Row condition ts = map_failed (IfFault (level_within level) at condition ts) (Begun reach (IfBehind at level lines.Row condition) (stops lines.Row) ts) (b.if_row most inner room at condition (level_within level) ts) (if_row_fails (level_within level) at condition ts) (row_fault at level condition ts)
+  if_by_fails : (at : Span) (level : Level) (line : InLine) (condition : Expr) (ts : List Token) → Failed (Begun reach (IfBehind at level line condition) (stops line) ts) (b.if_by most inner room line at condition (level_within level) ts)
+  if_by_fails at level lines.Free condition ts = map_failed (IfFault (level_within level) at condition ts) (Begun reach (IfBehind at level lines.Free condition) (stops lines.Free) ts) (b.if_series most inner room at condition (level_within level) ts) (if_series_fails (level_within level) at condition ts) (free_fault at level condition ts)
+  if_by_fails at level lines.Series condition ts = map_failed (IfFault (level_within level) at condition ts) (Begun reach (IfBehind at level lines.Series condition) (stops lines.Series) ts) (b.if_series most inner room at condition (level_within level) ts) (if_series_fails (level_within level) at condition ts) (production_fault at level condition ts)
   if_by_fails at level lines.Inner condition ts = if_at_once at level lines.Inner condition ts (extra ts) (starts_extra reach ts colon (an_end ∷ word_token w.KwIf ∷ []) (inl refl))
 
-  if_behind_fails : (at : Span) (level : Level) (line : Line) (condition : Expr) (ts : List Token) → Failed (Begun reach (IfBehind at level line condition) (stops line) ts) (b.if_behind most inner room at condition level line ts)
+  if_behind_fails : (at : Span) (level : Level) (line : InLine) (condition : Expr) (ts : List Token) → Failed (Begun reach (IfBehind at level line condition) (stops line) ts) (b.if_behind most inner room at condition level line ts)
   unfolding b.if_behind
   if_behind_fails at level line condition ts =
       by_test (λ (o : Outcome Stmt). Failed (Begun reach (IfBehind at level line condition) (stops line) ts) o) (sees_sep line ts) _ _
@@ -655,10 +655,10 @@ module _ (reach : Reach) (deep : ℕ) (inner : Spot → Reader Stmt) (room : ℕ
       (if_block_fails (level_within level) (line_within line) (end_within line) at condition (next ts)) (sep_begun line (g.if_block wide Outer at condition (level_within level) (line_within line)) (g.if_line wide Outer line at condition (level_within level)) (stops line) ts is))
       (λ is. if_by_fails at level line condition ts)
 
-  if_behind_sound : (at : Span) (level : Level) (line : Line) (condition : Expr) (ts : List Token) → Done (IfBehind at level line condition ts) (b.if_behind most inner room at condition level line ts)
+  if_behind_sound : (at : Span) (level : Level) (line : InLine) (condition : Expr) (ts : List Token) → Done (IfBehind at level line condition ts) (b.if_behind most inner room at condition level line ts)
   if_behind_sound at level line condition ts = widened (wide_if_behind most wide fits Inner Outer widens at condition level line) ts (b.if_behind most inner room at condition level line ts) ((exact_if_behind deep inner room Inner inside at condition level line).sound ts)
 
-  grows_if_behind : (at : Span) (level : Level) (line : Line) (condition : Expr) → Grows reach (b.if_behind most inner room at condition level line) (IfBehind at level line condition) (stops line)
+  grows_if_behind : (at : Span) (level : Level) (line : InLine) (condition : Expr) → Grows reach (b.if_behind most inner room at condition level line) (IfBehind at level line condition) (stops line)
   grows_if_behind at level line condition = record {
     least = colon ∷ an_end ∷ word_token w.KwIf ∷ [];
     stands = λ r c. if_least at level line condition r;
@@ -666,10 +666,10 @@ module _ (reach : Reach) (deep : ℕ) (inner : Spot → Reader Stmt) (room : ℕ
     sound = if_behind_sound at level line condition;
   }
 
-  like_if_to : (at : Span) (level : Level) (line : Line) (c d : Expr) → c ≡ d → Like (IfBehind at level line c) (IfBehind at level line d) Whatever (stops line)
+  like_if_to : (at : Span) (level : Level) (line : InLine) (c d : Expr) → c ≡ d → Like (IfBehind at level line c) (IfBehind at level line d) Whatever (stops line)
   like_if_to at level line c d r = like_if_behind wide Outer l c d r at level line
 
-  pub goes_if : (t : Token) (level : Level) (line : Line) → Goes reach (b.if_ most inner room t.at level line) (g.if_ wide Outer t.at level line) t (stops line)
+  pub goes_if : (t : Token) (level : Level) (line : InLine) → Goes reach (b.if_ most inner room t.at level line) (g.if_ wide Outer t.at level line) t (stops line)
   unfolding b.if_ same_word
   goes_if t level line = goes t (grows_then (grows_whole reach deep) (like_expression wide)
       (λ condition. grows_then (grows_word w.KwThen refl) (like_word w.KwThen) (λ u. grows_if_behind t.at level line condition) (λ u v r. like_if_to t.at level line condition condition refl))

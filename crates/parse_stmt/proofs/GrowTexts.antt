@@ -15,7 +15,7 @@ use Rattle.fb_ast.specs.declared.ty.Base.TheVariants as base
 use Rattle.fb_ast.specs.declared.ty.TypeName.{TypeName}
 use Rattle.word64.specs.declared.kind.Kind.TheVariants.{Integer}
 use Rattle.parse_expr.specs.Grammar.{written}
-use Rattle.parse_expr.proofs.Rowed.{here as at_start}
+use Rattle.parse_expr.proofs.Completed.{here as at_start}
 use Rattle.fb_ast.specs.declared.part.Name.{Name}
 use Rattle.fb_ast.specs.declared.part.ProcedureKind.{ProcedureKind}
 use Rattle.fb_ast.specs.declared.stmt.Block.{Block}
@@ -25,7 +25,7 @@ use Rattle.parse_expr.proofs.Sound.{Done, bind, by_test}
 use Rattle.parse_expr.proofs.Ends.{Suffixes, no_longer}
 use Rattle.parse_expr.proofs.Fills.{Failed, failed_then, failed_pure, map_failed}
 use Rattle.parse_parts.specs.declared.kinds.Level.TheVariants as levels
-use Rattle.parse_parts.specs.declared.kinds.Line.TheVariants as lines
+use Rattle.parse_parts.specs.declared.kinds.InLine.TheVariants as lines
 use Rattle.parse_parts.specs.declared.kinds.Spot.{Spot}
 use Rattle.parse_parts.specs.declared.kinds.Closer.{Closer}
 use Rattle.parse_parts.specs.declared.kinds.Closer.TheVariants as closers

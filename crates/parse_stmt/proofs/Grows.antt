@@ -2,7 +2,7 @@
 use Rattle.std.proofs.Common.{◌≡◌, ◌<◌, ℕ, zero, suc, ◌+◌, Bool, true, false, if◌then◌else◌, List, [], ◌∷◌, ◌++◌, length, Ok, Err, refl, sym, ap, ◌∙◌, subst, inl, inr, arith, append_assoc}
 use Rattle.fb_base.specs.declared.fault.FaultKind.{FaultKind}
 use Rattle.fb_lexer.specs.declared.token.Token.{Token}
-use Rattle.parse_expr.specs.declared.stop.Stop.TheVariants as stops
+use Rattle.parse_expr.specs.declared.error.ReadErr.TheVariants as read_errs
 use Rattle.parse_expr.specs.Reading.{next, sees, Reader, Outcome, and_then, pure}
 use Rattle.fb_lexer.specs.declared.token.Mark.TheVariants.{Comma}
 use Rattle.parse_expr.proofs.Sound.{Done, bind, by_test, map_done}
@@ -51,7 +51,7 @@ module _ {reach : Reach} where
   pub at_once : {A : Type 0} (P : Phrase A) (C : List Token → Bool) (ts : List Token) (kind : FaultKind) (least : List Token) → ((r : List Token) → C r ≡ true → (a : A) × P (least ++ r) a r) → Starts reach kind ts least → Begun reach P C ts kind ts
   at_once P C ts kind least stands starts = record { front = []; more = least; is = refl; stands = stands; starts = starts }
 
-  pub grows_taken : (test : List Token → Bool) (kind : List Token → FaultKind) (t : Token) → ((r : List Token) → test (t ∷ r) ≡ true) → ((ts : List Token) → Starts reach (kind ts) ts (t ∷ [])) → Grows reach (λ ts. if test ts then Ok (tt, next ts) else Err (stops.Fault (kind ts), ts)) (taken test) any
+  pub grows_taken : (test : List Token → Bool) (kind : List Token → FaultKind) (t : Token) → ((r : List Token) → test (t ∷ r) ≡ true) → ((ts : List Token) → Starts reach (kind ts) ts (t ∷ [])) → Grows reach (λ ts. if test ts then Ok (tt, next ts) else Err (read_errs.Fault (kind ts), ts)) (taken test) any
   unfolding next
   grows_taken test kind t holds starts = record {
     least = t ∷ [];

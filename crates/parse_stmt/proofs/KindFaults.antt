@@ -6,7 +6,7 @@ use Rattle.fb_lexer.specs.declared.token.Token.{Token}
 use Rattle.fb_lexer.specs.declared.token.TokenKind.{TokenKind}
 use Rattle.fb_lexer.specs.declared.token.TokenKind.TheVariants as kinds
 use Rattle.fb_ast.specs.declared.tree.Tree.{Tree}
-use Rattle.parse_expr.specs.declared.stop.Stop.TheVariants as stops
+use Rattle.parse_expr.specs.declared.error.ReadErr.TheVariants as read_errs
 use Rattle.parse_expr.specs.Reading.{Outcome}
 use Rattle.parse_expr.specs.Faults.{is_refused_kind}
 use Rattle.parse_expr.proofs.Firsts.{alike}
@@ -50,7 +50,7 @@ odd_sample u (inr (inl is)) = ap is_odd is
 odd_sample u (inr (inr (inl is))) = ap is_odd is
 odd_sample u (inr (inr (inr is))) = ap is_odd is
 
-module _ (front s : List Token) (t : Token) (kind : FaultKind) (is : module_ 200 199 (front ++ t ∷ s) ≡ Err (stops.Fault kind, t ∷ s)) where
+module _ (front s : List Token) (t : Token) (kind : FaultKind) (is : module_ 200 199 (front ++ t ∷ s) ≡ Err (read_errs.Fault kind, t ∷ s)) where
   -- a text with another token there, whose reading goes on behind it
   other_clashes : (L : FaultKind → Type 0) (u : Token) (more : List Token) → Stand L t (u ∷ more) → (deep room : ℕ) → Rooms L 200 (suc deep) → Rooms L 199 room → ((x : Token) → Ended L x → 199 ≡ room) → (L kind → ⊥) → Text (suc deep) room (front ++ u ∷ more) → ⊥
   other_clashes L u more place deep room rooms depths even never text =

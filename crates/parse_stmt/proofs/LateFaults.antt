@@ -6,9 +6,9 @@ use Rattle.fb_base.specs.declared.fault.FaultKind.TheVariants.{DeepNesting, OutO
 use Rattle.fb_lexer.specs.TokenList.{TokenList}
 use Rattle.fb_lexer.specs.declared.token.Token.{Token}
 use Rattle.fb_ast.specs.declared.tree.Tree.{Tree}
-use Rattle.parse_expr.specs.declared.stop.Stop.TheVariants as stops
-use Rattle.parse_expr.specs.declared.stop.ParseErr.{ParseErr}
-use Rattle.parse_expr.specs.declared.stop.ParseErr.TheVariants as errors
+use Rattle.parse_expr.specs.declared.error.ReadErr.TheVariants as read_errs
+use Rattle.parse_expr.specs.declared.error.ParseErr.{ParseErr}
+use Rattle.parse_expr.specs.declared.error.ParseErr.TheVariants as errors
 use Rattle.parse_expr.specs.Reading.{first, Outcome}
 use Rattle.parse_expr.specs.Faults.{is_refused_kind}
 use Rattle.parse_expr.proofs.Ends.{Suffixes}
@@ -36,16 +36,16 @@ unfolding first
 refused_first t s word plain = let bad : true ≡ false = sym word ∙ plain in cc
 
 -- no kind that comes earlier in the order has a reason
-no_reason : (front s : List Token) (t : Token) (kind : FaultKind) → module_ 200 199 (front ++ t ∷ s) ≡ Err (stops.Fault kind, t ∷ s) → (kind ≡ DeepNesting → IsPlain (t ∷ s)) → (kind ≡ OutOfProfile → ⊥) → RefusedThere front t → ⊥
+no_reason : (front s : List Token) (t : Token) (kind : FaultKind) → module_ 200 199 (front ++ t ∷ s) ≡ Err (read_errs.Fault kind, t ∷ s) → (kind ≡ DeepNesting → IsPlain (t ∷ s)) → (kind ≡ OutOfProfile → ⊥) → RefusedThere front t → ⊥
 no_reason front s t kind is plain other r = not_refused front s t kind is other (λ deep. refused_first t s r.word (plain deep)) r
 
-first_kind : (front s : List Token) (t : Token) (kind : FaultKind) → module_ 200 199 (front ++ t ∷ s) ≡ Err (stops.Fault kind, t ∷ s) → (kind ≡ DeepNesting → IsPlain (t ∷ s)) → HasKind front t kind
+first_kind : (front s : List Token) (t : Token) (kind : FaultKind) → module_ 200 199 (front ++ t ∷ s) ≡ Err (read_errs.Fault kind, t ∷ s) → (kind ≡ DeepNesting → IsPlain (t ∷ s)) → HasKind front t kind
 first_kind front s t kind is plain = has_kind front s t kind is (no_reason front s t kind is plain) (no_end front s t kind is)
 
 told_first : (tokens : TokenList) (fault : Fault) (o : Outcome Found) → module_ 200 199 tokens.items ≡ o → Failed (TextBegun near 199 199 tokens.items) o → Failed AtEnd o → told tokens o ≡ Err (errors.Fault fault) → FirstAt tokens.items fault
 told_first tokens fault (Ok p) is f ends answer = cc
-told_first tokens fault (Err (stops.NoMemory, rest)) is f ends answer = cc
-told_first tokens fault (Err (stops.Fault kind, rest)) is f ends answer =
+told_first tokens fault (Err (read_errs.NoMemory, rest)) is f ends answer = cc
+told_first tokens fault (Err (read_errs.Fault kind, rest)) is f ends answer =
     let e : Suffixes rest tokens.items = record { front = f.front; is = f.is } in
     first_at tokens fault kind rest is e (begins tokens.items kind rest f)
     (λ t behind rest_is. first_kind f.front behind t kind (at_rest tokens kind rest is e t behind rest_is) (λ deep. subst IsPlain rest_is (ends.1 deep)))

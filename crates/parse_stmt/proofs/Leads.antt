@@ -13,9 +13,9 @@ use Rattle.parse_expr.specs.declared.kinds.OperandWord.{OperandWord}
 use Rattle.parse_expr.specs.declared.kinds.OperandWord.TheVariants as operands
 use Rattle.parse_expr.specs.Words.{prefix_of, operand_word}
 use Rattle.parse_expr.specs.Reading.{is_mark, same_mark}
-use Rattle.parse_expr.specs.Rows.{begins_some, word_start}
+use Rattle.parse_expr.specs.Productions.{begins_some, word_start}
 use Rattle.parse_expr.specs.Expr.{begins}
-use Rattle.parse_expr.proofs.Rowed.{here as at_start}
+use Rattle.parse_expr.proofs.Completed.{here as at_start}
 use Rattle.parse_parts.specs.declared.kinds.Level.{Level}
 use Rattle.parse_parts.specs.declared.kinds.Level.TheVariants as levels
 use Rattle.parse_parts.specs.declared.kinds.Lead.{Lead}

@@ -19,13 +19,13 @@ use Rattle.fb_ast.specs.declared.stmt.Stmt.TheVariants as k
 use Rattle.parse_expr.specs.declared.kinds.OperandWord.TheVariants as operands
 use Rattle.parse_expr.specs.Words.{operand_word}
 use Rattle.parse_expr.specs.Reading.{first, next, holds, is_mark, is_word, sees, sees_word}
-use Rattle.parse_expr.specs.Rows.{Row as ExprRow, mark as mark_row, call_word_row, start_of, word_start}
-use Rattle.parse_expr.specs.Grammar.{row_of, Is, Expression, Behind, primary as a_primary, suffix as a_suffix, prefix as a_prefix, binary as a_binary}
+use Rattle.parse_expr.specs.Productions.{Production, mark as mark_production, call_word_production, start_of, word_start}
+use Rattle.parse_expr.specs.Grammar.{production_of, Is, Expression, Behind, primary as a_primary, suffix as a_suffix, prefix as a_prefix, binary as a_binary}
 use Rattle.parse_expr.proofs.Ends.{Suffixes, same_end, end_of_end, no_longer}
 use Rattle.parse_parts.specs.declared.kinds.Level.{Level}
 use Rattle.parse_parts.specs.declared.kinds.Level.TheVariants as levels
-use Rattle.parse_parts.specs.declared.kinds.Line.{Line}
-use Rattle.parse_parts.specs.declared.kinds.Line.TheVariants as lines
+use Rattle.parse_parts.specs.declared.kinds.InLine.{InLine}
+use Rattle.parse_parts.specs.declared.kinds.InLine.TheVariants as lines
 use Rattle.parse_parts.specs.declared.kinds.Lead.{Lead}
 use Rattle.parse_parts.specs.declared.kinds.Lead.TheVariants as leads
 use Rattle.parse_parts.specs.declared.kinds.Closer.{Closer}
@@ -36,7 +36,7 @@ use Rattle.parse_parts.specs.Simple.{assignment_at, exit_at, continue_at}
 use Rattle.parse_parts.specs.Heads.{Opening}
 use Rattle.parse_parts.specs.Members.{is_field, has_field}
 use Rattle.parse_stmt.specs.Phrases.{Phrase, gives, Then, ◌>>◌, either, maybe, before, word, sep, any_token, expression, place}
-use Rattle.parse_stmt.specs.Statements.{Chosen, is_alone, values, valued, call_word, assignment, end_of, Many, none, some, Statements, blank, Row, last, another}
+use Rattle.parse_stmt.specs.Statements.{Chosen, is_alone, values, valued, call_word, assignment, end_of, Many, none, some, Statements, blank, Series, last, another}
 use Rattle.parse_stmt.specs.Statements as g
 use Rattle.parse_stmt.specs.Texts as texts
 use Rattle.parse_stmt.specs.Texts.{Members}
@@ -48,43 +48,43 @@ use Rattle.parse_stmt.proofs.LikeParts.{done, like_maybe, like_variables, like_d
 
 -- ---- what may come behind a statement
 
-abbrev stop_kind : Line → Option TokenKind → Bool
+abbrev stop_kind : InLine → Option TokenKind → Bool
 stop_kind line None = true
 stop_kind line (Some kinds.LineEnd) = true
 stop_kind lines.Inner (Some kinds.Colon) = true
 stop_kind line other = false
 
 -- nothing, or a line end; or a colon, where no one-line If stands
-abbrev pub stops : Line → List Token → Bool
+abbrev pub stops : InLine → List Token → Bool
 stops line ts = stop_kind line (next_kind ts)
 
-stop_alone_by : (line : Line) (t : Token) (ts : List Token) (kind : TokenKind) → t.kind ≡ kind → stop_kind line (Some kind) ≡ true → is_mark Open kind ≡ false
+stop_alone_by : (line : InLine) (t : Token) (ts : List Token) (kind : TokenKind) → t.kind ≡ kind → stop_kind line (Some kind) ≡ true → is_mark Open kind ≡ false
 stop_alone_by line t ts kinds.LineEnd same is = refl
 stop_alone_by lines.Inner t ts kinds.Colon same is = refl
 stop_alone_by lines.Free t ts kinds.Colon same is = cc
-stop_alone_by lines.Row t ts kinds.Colon same is = cc
+stop_alone_by lines.Series t ts kinds.Colon same is = cc
 stop_alone_by line t ts (kinds.Name text) same is = cc
 stop_alone_by line t ts (kinds.Mark which) same is = cc
 stop_alone_by line t ts (kinds.Word which) same is = cc
 stop_alone_by line t ts (kinds.Number value) same is = cc
 stop_alone_by line t ts (kinds.Str text) same is = cc
 
-pub stop_alone : (line : Line) (ts : List Token) → stops line ts ≡ true → is_alone ts ≡ true
+pub stop_alone : (line : InLine) (ts : List Token) → stops line ts ≡ true → is_alone ts ≡ true
 unfolding sees first
 stop_alone line [] is = refl
 stop_alone line (t ∷ ts) is = rw (stop_alone_by line t ts t.kind refl is) refl
 
-row_no_sep_by : (kind : TokenKind) → stop_kind lines.Row (Some kind) ≡ true → (is_sep lines.Row kind ≡ false) × (is_word w.KwElse kind ≡ false)
-row_no_sep_by kinds.LineEnd is = (refl, refl)
-row_no_sep_by kind is = cc
+series_no_sep_by : (kind : TokenKind) → stop_kind lines.Series (Some kind) ≡ true → (is_sep lines.Series kind ≡ false) × (is_word w.KwElse kind ≡ false)
+series_no_sep_by kinds.LineEnd is = (refl, refl)
+series_no_sep_by kind is = cc
 
--- behind a row no colon comes, and no Else
-pub row_no_sep : (ts : List Token) → stops lines.Row ts ≡ true → (sees_sep lines.Row ts ≡ false) × (sees_word w.KwElse ts ≡ false)
+-- behind a series no colon comes, and no Else
+pub series_no_sep : (ts : List Token) → stops lines.Series ts ≡ true → (sees_sep lines.Series ts ≡ false) × (sees_word w.KwElse ts ≡ false)
 unfolding sees_sep sees_word first
-row_no_sep [] is = (refl, refl)
-row_no_sep (t ∷ ts) is = row_no_sep_by t.kind is
+series_no_sep [] is = (refl, refl)
+series_no_sep (t ∷ ts) is = series_no_sep_by t.kind is
 
-fits_alone : (line : Line) (mid new : List Token) → Fits (stops line) mid new → Fits is_alone mid new
+fits_alone : (line : InLine) (mid new : List Token) → Fits (stops line) mid new → Fits is_alone mid new
 fits_alone line mid new (inl same) = inl same
 fits_alone line mid new (inr it) = inr (stop_alone line new it)
 
@@ -180,7 +180,7 @@ module _ {A B : Type 0} {P : Phrase A} {Q : Phrase B} {R : A → B → Type 0} (
 
 -- ---- statements with ends
 
-module _ (one : Phrase Stmt) (line : Line) (l : Like one one Whatever (stops line)) where
+module _ (one : Phrase Stmt) (line : InLine) (l : Like one one Whatever (stops line)) where
   stmts_within : (ts : List Token) (all : List Stmt) (rest : List Token) → Statements one line ts all rest → Suffixes rest ts
   stmts_within ts all rest (none a) = same_end rest
   stmts_within ts all rest (blank a b more is p) = end_of_end (stmts_within (next ts) more rest p) (leave_next ts)
@@ -212,35 +212,35 @@ module _ (one : Phrase Stmt) (line : Line) (l : Like one one Whatever (stops lin
   pub like_statements : Like (Statements one line) (Statements one line) Whatever any
   like_statements = record { within = stmts_within; moves = λ front mid new all p f. let m = stmts_move (front ++ mid) front mid new all refl p in (m.0, m.1, tt) }
 
--- ---- rows
+-- ---- series
 
-module _ (one : Phrase Stmt) (l : Like one one Whatever (stops lines.Row)) where
-  row_within : (ts : List Token) (all : List Stmt) (rest : List Token) → Row one ts all rest → Suffixes rest ts
-  row_within ts all rest (last a b x p apart) = l.within ts x rest p
-  row_within ts all rest (another a between b x more p is q) = end_of_end (row_within (next between) more rest q) (end_of_end (leave_next between) (l.within ts x between p))
+module _ (one : Phrase Stmt) (l : Like one one Whatever (stops lines.Series)) where
+  series_within : (ts : List Token) (all : List Stmt) (rest : List Token) → Series one ts all rest → Suffixes rest ts
+  series_within ts all rest (last a b x p apart) = l.within ts x rest p
+  series_within ts all rest (another a between b x more p is q) = end_of_end (series_within (next between) more rest q) (end_of_end (leave_next between) (l.within ts x between p))
 
-  no_colon : (mid new : List Token) → sees_sep lines.Row mid ≡ false → Fits (stops lines.Row) mid new → sees_sep lines.Row new ≡ false
+  no_colon : (mid new : List Token) → sees_sep lines.Series mid ≡ false → Fits (stops lines.Series) mid new → sees_sep lines.Series new ≡ false
   unfolding sees_sep
-  no_colon mid new is (inl same) = ap (holds (is_sep lines.Row)) same ∙ is
-  no_colon mid new is (inr it) = (row_no_sep new it).0
+  no_colon mid new is (inl same) = ap (holds (is_sep lines.Series)) same ∙ is
+  no_colon mid new is (inr it) = (series_no_sep new it).0
 
-  row_moves : (ts front mid new : List Token) (all : List Stmt) → ts ≡ front ++ mid → Row one ts all mid → Fits (stops lines.Row) mid new → (bs : List Stmt) × Row one (front ++ new) bs new
+  series_moves : (ts front mid new : List Token) (all : List Stmt) → ts ≡ front ++ mid → Series one ts all mid → Fits (stops lines.Series) mid new → (bs : List Stmt) × Series one (front ++ new) bs new
   unfolding next first
-  row_moves ts front mid new all is (last a b x p apart) f =
+  series_moves ts front mid new all is (last a b x p apart) f =
       let m = l.moves front mid new x (subst (λ (xs : List Token). one xs x mid) is p) f in (m.0 ∷ [], last (front ++ new) new m.0 m.1 (no_colon mid new apart f))
-  row_moves ts front mid new all is (another a between c x more p it q) f =
+  series_moves ts front mid new all is (another a between c x more p it q) f =
       let s = l.within ts x between p in
-      let z = parting (sees_sep lines.Row) (looks_sep lines.Row) between mid it (row_within (next between) more mid q) in
+      let z = parting (sees_sep lines.Series) (looks_sep lines.Series) between mid it (series_within (next between) more mid q) in
       let b = lies front mid between (record { front = s.front; is = sym is ∙ s.is }) (record { front = z.token ∷ z.behind; is = z.is }) in
-      let r = row_moves (next between) z.behind mid new more z.next_is q f in
+      let r = series_moves (next between) z.behind mid new more z.next_is q f in
       let tail : b.behind ≡ z.token ∷ z.behind = same_front b.behind (z.token ∷ z.behind) mid (sym b.between_is ∙ z.is) in
       let m = l.moves b.before between (z.token ∷ (z.behind ++ new)) x (subst (λ (xs : List Token). one xs x between) s.is p) (inl (ap first (sym z.is))) in
       let whole : b.before ++ (z.token ∷ (z.behind ++ new)) ≡ front ++ new = ap (λ (xs : List Token). b.before ++ (xs ++ new)) (sym tail) ∙ sym (append_assoc b.before b.behind new) ∙ ap (λ (xs : List Token). xs ++ new) (sym b.is) in
-      let end : sees_sep lines.Row (z.token ∷ (z.behind ++ new)) ≡ true = (looks_sep lines.Row).alone z.token (z.behind ++ new) (z.behind ++ mid) ∙ ap (sees_sep lines.Row) (sym z.is) ∙ it in
+      let end : sees_sep lines.Series (z.token ∷ (z.behind ++ new)) ≡ true = (looks_sep lines.Series).alone z.token (z.behind ++ new) (z.behind ++ mid) ∙ ap (sees_sep lines.Series) (sym z.is) ∙ it in
       (m.0 ∷ r.0, another (front ++ new) (z.token ∷ (z.behind ++ new)) new m.0 r.0 (subst (λ (xs : List Token). one xs m.0 (z.token ∷ (z.behind ++ new))) whole m.1) end r.1)
 
-  pub like_row : Like (Row one) (Row one) Whatever (stops lines.Row)
-  like_row = record { within = row_within; moves = λ front mid new all p f. let m = row_moves (front ++ mid) front mid new all refl p f in (m.0, m.1, tt) }
+  pub like_series : Like (Series one) (Series one) Whatever (stops lines.Series)
+  like_series = record { within = series_within; moves = λ front mid new all p f. let m = series_moves (front ++ mid) front mid new all refl p f in (m.0, m.1, tt) }
 
 -- ---- from a token on
 
@@ -275,12 +275,12 @@ abbrev first_of : Token → List Token → Token
 first_of other [] = other
 first_of other (t ∷ ts) = t
 
-abbrev row_in : ExprRow → Option ExprRow → ExprRow
-row_in other None = other
-row_in other (Some row) = row
+abbrev production_in : Production → Option Production → Production
+production_in other None = other
+production_in other (Some production) = production
 
-no_mark_row : {which : Mark} {row : ExprRow} {deepest depth : ℕ} {tree : Expr} → Is (Behind (mark_row which row) deepest depth tree) [] → ⊥
-no_mark_row is = elim is [ ]
+no_mark_production : {which : Mark} {production : Production} {deepest depth : ℕ} {tree : Expr} → Is (Behind (mark_production which production) deepest depth tree) [] → ⊥
+no_mark_production is = elim is [ ]
 
 two_tokens : (front : List Token) (u : Token) (back : List Token) (t : Token) {level : ℕ} → Begun level front → front ++ u ∷ back ≡ t ∷ [] → ⊥
 two_tokens front u back t b same =
@@ -307,17 +307,17 @@ no_open_moves [] mid new is (inr it) = not_open (sees Open new) it
 no_open_moves (t ∷ front) mid new is f = open_first (t ∷ (front ++ new)) (t ∷ (front ++ mid)) refl ∙ is
 
 -- where a one-line If may stand
-abbrev stops_row : Line → Type 0
-stops_row lines.Free = Unit {0}
-stops_row lines.Row = Unit {0}
-stops_row lines.Inner = ⊥
+abbrev stops_series : InLine → Type 0
+stops_series lines.Free = Unit {0}
+stops_series lines.Series = Unit {0}
+stops_series lines.Inner = ⊥
 
-free_by : (o : Option TokenKind) → stop_kind lines.Free o ≡ true → stop_kind lines.Row o ≡ true
+free_by : (o : Option TokenKind) → stop_kind lines.Free o ≡ true → stop_kind lines.Series o ≡ true
 free_by None is = refl
 free_by (Some kinds.LineEnd) is = refl
 free_by (Some kind) is = cc
 
-pub free_stops : (ts : List Token) → stops lines.Free ts ≡ true → stops lines.Row ts ≡ true
+pub free_stops : (ts : List Token) → stops lines.Free ts ≡ true → stops lines.Series ts ≡ true
 free_stops ts is = free_by (next_kind ts) is
 
 abbrev none_at : Option (Span × Block)
@@ -347,7 +347,7 @@ module _ (most : ℕ) where
   valued_tail at t more x rest (inr (inl p)) = let e = p.back.front.2 in end_of_end (rw (p.back.back.1 ∙ e) (same_end p.between)) (place_tail t more p.given p.between p.front)
   valued_tail at t more x rest (inr (inr p)) = end_of_end ((like_rest_of at p.given).within p.between x rest p.back) (taken_tail t more p.between (p.front.0.token ∷ []) p.front.0.token [] p.front.0.is refl)
 
-  from_valued : (at : Span) (t : Token) (line : Line) → From (valued most at) t (stops line)
+  from_valued : (at : Span) (t : Token) (line : InLine) → From (valued most at) t (stops line)
   from_valued at t line = record {
     within = λ more x rest p. valued_tail at t more x rest p;
     moves = λ front mid new x p f. let m = (like_valued most at).moves (t ∷ front) mid new x p (fits_alone line mid new f) in (m.0, m.1);
@@ -355,12 +355,12 @@ module _ (most : ℕ) where
 
   -- a word that is called is no place alone
   lone_word : (t : Token) (word : Word) (which : CallWord) → t.kind ≡ kinds.Word word → operand_word word ≡ operands.Call which → {level depth : ℕ} {tree : Expr} {ts : List Token} → Is (Expression level depth tree) ts → ts ≡ t ∷ [] → ⊥
-  lone_word t word which kind is (a_primary u row us level depth tree none_before begins low r) same =
+  lone_word t word which kind is (a_primary u production us level depth tree none_before begins low r) same =
       let head : u ≡ t = ap (first_of u) same in
       let tail : us ≡ [] = ap next_of same in
-      let start : row_of (start_of u.at u.kind) ≡ Some (call_word_row u.at which) = ap (λ (k : TokenKind). row_of (start_of u.at k)) (ap (λ (x : Token). x.kind) head ∙ kind) ∙ ap (λ (o : _). row_of (word_start u.at o)) is in
-      let it : row ≡ call_word_row u.at which = ap (row_in row) (sym begins ∙ start) in
-      no_mark_row (subst (λ (xs : List Token). Is (Behind (call_word_row u.at which) 0 depth tree) xs) tail (subst (λ (x : ExprRow). Is (Behind x 0 depth tree) us) it r))
+      let start : production_of (start_of u.at u.kind) ≡ Some (call_word_production u.at which) = ap (λ (k : TokenKind). production_of (start_of u.at k)) (ap (λ (x : Token). x.kind) head ∙ kind) ∙ ap (λ (o : _). production_of (word_start u.at o)) is in
+      let it : production ≡ call_word_production u.at which = ap (production_in production) (sym begins ∙ start) in
+      no_mark_production (subst (λ (xs : List Token). Is (Behind (call_word_production u.at which) 0 depth tree) xs) tail (subst (λ (x : Production). Is (Behind x 0 depth tree) us) it r))
   lone_word t word which kind is (a_suffix front u back suffix left d level depth tree a b low l r) same = two_tokens front u back t (begun l) same
   lone_word t word which kind is (a_prefix u us operator p d level operand a low r) same =
       let b = begun r in let e = ap length same in let f = ap length b.is in absurd (omega arith)
@@ -403,7 +403,7 @@ module _ (most : ℕ) where
   like_call_values : (at : Span) (which : CallWord) → Like (CallValues at which) (CallValues at which) Whatever any
   like_call_values at which = like_then (like_values most) (λ a b r. done)
 
-  call_moves : (at : Span) (t : Token) (word : Word) (which : CallWord) → t.kind ≡ kinds.Word word → operand_word word ≡ operands.Call which → (line : Line) (front mid new : List Token) (x : Stmt)
+  call_moves : (at : Span) (t : Token) (word : Word) (which : CallWord) → t.kind ≡ kinds.Word word → operand_word word ≡ operands.Call which → (line : InLine) (front mid new : List Token) (x : Stmt)
       → call_word most at which (t ∷ (front ++ mid)) x mid → Fits (stops line) mid new → (z : Stmt) × call_word most at which (t ∷ (front ++ new)) z new
   unfolding next
   call_moves at t word which kind is line [] mid new x (inl p) f = absurd (lone_valued at t word which kind is mid x p.1)
@@ -418,7 +418,7 @@ module _ (most : ℕ) where
   call_within at t which more x rest (inl p) = valued_tail at t more x rest p.1
   call_within at t which more x rest (inr p) = (from_token t (like_call_values at which)).within more x rest p.1
 
-  from_call : (at : Span) (t : Token) (level : Level) (which : CallWord) → lead_of level t.kind ≡ leads.Call which → (line : Line) → From (call_word most at which) t (stops line)
+  from_call : (at : Span) (t : Token) (level : Level) (which : CallWord) → lead_of level t.kind ≡ leads.Call which → (line : InLine) → From (call_word most at which) t (stops line)
   from_call at t level which is line = record {
     within = λ more x rest p. call_within at t which more x rest p;
     moves = λ front mid new x p f. let c = call_kind level t.kind which is in call_moves at t c.0 which c.1 c.2 line front mid new x p f;
@@ -426,25 +426,25 @@ module _ (most : ℕ) where
 
   -- ---- statements inside
 
-  module _ (inner : Level → Line → Phrase Stmt) (l : (level : Level) (line : Line) → Like (inner level line) (inner level line) Whatever (stops line)) where
-    pub like_body : (level : Level) (line : Line) → Like (g.body most inner level line) (g.body most inner level line) Whatever any
+  module _ (inner : Level → InLine → Phrase Stmt) (l : (level : Level) (line : InLine) → Like (inner level line) (inner level line) Whatever (stops line)) where
+    pub like_body : (level : Level) (line : InLine) → Like (g.body most inner level line) (g.body most inner level line) Whatever any
     like_body level line = like_then (like_statements (inner level line) line (l level line)) (λ a b r. like_then like_here (λ x y q. done))
 
-    pub like_then_row : (level : Level) → Like (g.then_row most inner level) (g.then_row most inner level) Whatever (stops lines.Row)
-    like_then_row level = like_placed _ (like_row (inner level lines.Row) (l level lines.Row))
+    pub like_then_series : (level : Level) → Like (g.then_series most inner level) (g.then_series most inner level) Whatever (stops lines.Series)
+    like_then_series level = like_placed _ (like_series (inner level lines.Series) (l level lines.Series))
 
-    like_else_row : (level : Level) → Like (g.else_row most inner level) (g.else_row most inner level) Whatever (stops lines.Row)
-    like_else_row level = like_placed _ (like_row (inner level lines.Row) (l level lines.Row))
+    like_else_series : (level : Level) → Like (g.else_series most inner level) (g.else_series most inner level) Whatever (stops lines.Series)
+    like_else_series level = like_placed _ (like_series (inner level lines.Series) (l level lines.Series))
 
     abbrev no_else : List Token → Bool
     no_else rest = if sees_word w.KwElse rest then false else true
 
-    none_moves : (mid new : List Token) → no_else mid ≡ true → Fits (stops lines.Row) mid new → no_else new ≡ true
+    none_moves : (mid new : List Token) → no_else mid ≡ true → Fits (stops lines.Series) mid new → no_else new ≡ true
     unfolding sees_word
     none_moves mid new is (inl same) = ap (λ (o : Option Token). if holds (is_word w.KwElse) o then false else true) same ∙ is
-    none_moves mid new is (inr it) = ap (λ (b : Bool). if b then false else true) (row_no_sep new it).1
+    none_moves mid new is (inr it) = ap (λ (b : Bool). if b then false else true) (series_no_sep new it).1
 
-    like_no_else : Like (before no_else (gives none_at)) (before no_else (gives none_at)) Whatever (stops lines.Row)
+    like_no_else : Like (before no_else (gives none_at)) (before no_else (gives none_at)) Whatever (stops lines.Series)
     like_no_else = record {
       within = λ ts a rest p. rw (p.0.1) (same_end ts);
       moves = λ front mid new a p f.
@@ -452,94 +452,94 @@ module _ (most : ℕ) where
           (none_at, ((refl, ap (λ (xs : List Token). xs ++ new) (sym e)), none_moves mid new p.1 f), tt);
     }
 
-    pub like_row_other : (level : Level) → Like (g.row_other most inner level) (g.row_other most inner level) Whatever (stops lines.Row)
-    like_row_other level = like_either
-        (like_then_if (like_less (stops lines.Row) like_here) (λ at bt r. like_then_if (like_less (stops lines.Row) (like_word w.KwElse)) (λ u v q. like_then_if (like_else_row level) (λ a b e. given_if (stops lines.Row)))))
+    pub like_series_other : (level : Level) → Like (g.series_other most inner level) (g.series_other most inner level) Whatever (stops lines.Series)
+    like_series_other level = like_either
+        (like_then_if (like_less (stops lines.Series) like_here) (λ at bt r. like_then_if (like_less (stops lines.Series) (like_word w.KwElse)) (λ u v q. like_then_if (like_else_series level) (λ a b e. given_if (stops lines.Series)))))
         like_no_else
 
-    pub like_if_row : (at : Span) (condition : Expr) (level : Level) → Like (g.if_row most inner at condition level) (g.if_row most inner at condition level) Whatever (stops lines.Row)
-    like_if_row at condition level = like_then_if (like_then_row level) (λ a b r. like_then_if (like_row_other level) (λ c d q. given_if (stops lines.Row)))
+    pub like_if_series : (at : Span) (condition : Expr) (level : Level) → Like (g.if_series most inner at condition level) (g.if_series most inner at condition level) Whatever (stops lines.Series)
+    like_if_series at condition level = like_then_if (like_then_series level) (λ a b r. like_then_if (like_series_other level) (λ c d q. given_if (stops lines.Series)))
 
-    pub like_branch : (at bt : Span) (one other : Expr) (level : Level) (line : Line) → Like (g.branch most inner at one level line) (g.branch most inner bt other level line) Whatever any
+    pub like_branch : (at bt : Span) (one other : Expr) (level : Level) (line : InLine) → Like (g.branch most inner at one level line) (g.branch most inner bt other level line) Whatever any
     like_branch at bt one other level line = like_then (like_body level line) (λ a b r. done)
 
-    pub like_else_if : (level : Level) (line : Line) → Like (g.else_if most inner level line) (g.else_if most inner level line) Whatever any
+    pub like_else_if : (level : Level) (line : InLine) → Like (g.else_if most inner level line) (g.else_if most inner level line) Whatever any
     like_else_if level line = like_then like_here (λ at bt r. like_then (like_word w.KwElseIf) (λ u v q. like_then (like_expression most) (λ a b e. like_then (like_word w.KwThen) (λ x y f. like_then (like_sep line) (λ c d h. like_branch at bt a b level line)))))
 
-    pub like_last_else : (level : Level) (line : Line) → Like (g.last_else most inner level line) (g.last_else most inner level line) Whatever any
+    pub like_last_else : (level : Level) (line : InLine) → Like (g.last_else most inner level line) (g.last_else most inner level line) Whatever any
     like_last_else level line = like_either (like_then like_here (λ at bt r. like_then (like_word w.KwElse) (λ u v q. like_then (like_then (like_sep line) (λ x y e. like_body level line)) (λ a b f. done)))) done
 
-    like_if_block : (at : Span) (condition : Expr) (level : Level) (line : Line) → Like (g.if_block most inner at condition level line) (g.if_block most inner at condition level line) Whatever any
+    like_if_block : (at : Span) (condition : Expr) (level : Level) (line : InLine) → Like (g.if_block most inner at condition level line) (g.if_block most inner at condition level line) Whatever any
     like_if_block at condition level line = like_then (like_branch at at condition condition level line) (λ a b r. like_then (like_many (like_else_if level line)) (λ c d q. like_then (like_last_else level line) (λ e f h. like_then (like_end_of w.KwIf) (λ x y i. done))))
 
-    row_fits : (line : Line) → (mid new : List Token) → stops_row line → Fits (stops line) mid new → Fits (stops lines.Row) mid new
-    row_fits lines.Free mid new ok (inl same) = inl same
-    row_fits lines.Free mid new ok (inr it) = inr (free_stops new it)
-    row_fits lines.Row mid new ok f = f
-    row_fits lines.Inner mid new ok f = absurd ok
+    series_fits : (line : InLine) → (mid new : List Token) → stops_series line → Fits (stops line) mid new → Fits (stops lines.Series) mid new
+    series_fits lines.Free mid new ok (inl same) = inl same
+    series_fits lines.Free mid new ok (inr it) = inr (free_stops new it)
+    series_fits lines.Series mid new ok f = f
+    series_fits lines.Inner mid new ok f = absurd ok
 
-    like_if_line : (line : Line) (at : Span) (condition : Expr) (level : Level) → Like (g.if_line most inner line at condition level) (g.if_line most inner line at condition level) Whatever (stops line)
-    like_if_line lines.Free at condition level = like_weaker (like_if_row at condition level) (λ mid new f. row_fits lines.Free mid new tt f)
-    like_if_line lines.Row at condition level = like_if_row at condition level
+    like_if_line : (line : InLine) (at : Span) (condition : Expr) (level : Level) → Like (g.if_line most inner line at condition level) (g.if_line most inner line at condition level) Whatever (stops line)
+    like_if_line lines.Free at condition level = like_weaker (like_if_series at condition level) (λ mid new f. series_fits lines.Free mid new tt f)
+    like_if_line lines.Series at condition level = like_if_series at condition level
     like_if_line lines.Inner at condition level = record { within = λ ts x rest p. absurd p; moves = λ front mid new x p f. absurd p }
 
-    abbrev pub IfBehind : Span → Level → Line → Expr → Phrase Stmt
+    abbrev pub IfBehind : Span → Level → InLine → Expr → Phrase Stmt
     IfBehind at level line condition = either (sep line >> g.if_block most inner at condition (level_within level) (line_within line)) (g.if_line most inner line at condition (level_within level))
 
-    pub like_if_behind : (a b : Expr) → a ≡ b → (at : Span) (level : Level) (line : Line) → Like (IfBehind at level line a) (IfBehind at level line b) Whatever (stops line)
+    pub like_if_behind : (a b : Expr) → a ≡ b → (at : Span) (level : Level) (line : InLine) → Like (IfBehind at level line a) (IfBehind at level line b) Whatever (stops line)
     like_if_behind a b r at level line = subst (λ (z : Expr). Like (IfBehind at level line a) (IfBehind at level line z) Whatever (stops line)) r
         (like_either (like_less (stops line) (like_then (like_sep line) (λ u v q. like_if_block at a (level_within level) (line_within line)))) (like_if_line line at a (level_within level)))
 
-    like_if : (at : Span) (level : Level) (line : Line) → Like (Then (expression most) (λ condition. Then (word w.KwThen) (λ u. either (sep line >> g.if_block most inner at condition (level_within level) (line_within line)) (g.if_line most inner line at condition (level_within level)))))
+    like_if : (at : Span) (level : Level) (line : InLine) → Like (Then (expression most) (λ condition. Then (word w.KwThen) (λ u. either (sep line >> g.if_block most inner at condition (level_within level) (line_within line)) (g.if_line most inner line at condition (level_within level)))))
         (Then (expression most) (λ condition. Then (word w.KwThen) (λ u. either (sep line >> g.if_block most inner at condition (level_within level) (line_within line)) (g.if_line most inner line at condition (level_within level))))) Whatever (stops line)
     like_if at level line = like_then (like_expression most) (λ a b r. like_then (like_word w.KwThen) (λ u v q. like_if_behind a b r at level line))
 
     -- ---- loops
 
-    pub like_for_tail : (level : Level) (line : Line) → Like (g.for_tail most inner level line) (g.for_tail most inner level line) Whatever any
+    pub like_for_tail : (level : Level) (line : InLine) → Like (g.for_tail most inner level line) (g.for_tail most inner level line) Whatever any
     like_for_tail level line = like_then (like_sep line) (λ u v r. like_then (like_body level line) (λ a b q. like_then (like_word w.KwNext) (λ x y e. like_then (like_maybe like_name) (λ c d f. done))))
 
-    abbrev While : Span → Level → Line → Phrase Stmt
+    abbrev While : Span → Level → InLine → Phrase Stmt
     While at level line = Then (expression most) (λ condition. Then (sep line) (λ u. Then (g.body most inner level line) (λ b. Then (word w.KwWend) (λ x. gives (k.While at condition b)))))
 
-    like_while : (at : Span) (level : Level) (line : Line) → Like (While at level line) (While at level line) Whatever any
+    like_while : (at : Span) (level : Level) (line : InLine) → Like (While at level line) (While at level line) Whatever any
     like_while at level line = like_then (like_expression most) (λ c d r. like_then (like_sep line) (λ u v q. like_then (like_body level line) (λ a b e. like_then (like_word w.KwWend) (λ x y f. done))))
 
-    abbrev Do : Span → Level → Line → Phrase Stmt
+    abbrev Do : Span → Level → InLine → Phrase Stmt
     Do at level line = Then (maybe (g.test most)) (λ one. Then (sep line) (λ u. Then (g.body most inner level line) (λ b. Then (word w.KwLoop) (λ x. Then (g.last_test most one) (λ other. gives (k.Do at one b other))))))
 
-    like_do : (at : Span) (level : Level) (line : Line) → Like (Do at level line) (Do at level line) Whatever any
+    like_do : (at : Span) (level : Level) (line : InLine) → Like (Do at level line) (Do at level line) Whatever any
     like_do at level line = like_then (like_maybe (like_test most)) (λ one other r. like_then (like_sep line) (λ u v q. like_then (like_body level line) (λ a b e. like_then (like_word w.KwLoop) (λ x y f. like_then (like_last_test most one other r) (λ c d h. done)))))
 
     -- ---- Select and Scope
 
-    pub like_case_branch : (level : Level) (line : Line) → Like (g.case_branch most inner level line) (g.case_branch most inner level line) Whatever any
+    pub like_case_branch : (level : Level) (line : InLine) → Like (g.case_branch most inner level line) (g.case_branch most inner level line) Whatever any
     like_case_branch level line = like_then like_here (λ at bt r. like_then (like_word w.KwCase) (λ u v q. like_then (like_cases most) (λ a b e. like_then (like_sep line) (λ x y f. like_then (like_body level line) (λ c d h. done)))))
 
-    abbrev Select : Span → Level → Line → Phrase Stmt
+    abbrev Select : Span → Level → InLine → Phrase Stmt
     Select at level line = Then (word w.KwCase) (λ u. Then (expression most) (λ x. Then (sep line) (λ y. Then (Many (g.case_branch most inner level line)) (λ all. Then (end_of w.KwSelect) (λ end. gives (k.Select at x all end))))))
 
-    like_select : (at : Span) (level : Level) (line : Line) → Like (Select at level line) (Select at level line) Whatever any
+    like_select : (at : Span) (level : Level) (line : InLine) → Like (Select at level line) (Select at level line) Whatever any
     like_select at level line = like_then (like_word w.KwCase) (λ u v r. like_then (like_expression most) (λ a b q. like_then (like_sep line) (λ x y e. like_then (like_many (like_case_branch level line)) (λ c d f. like_then (like_end_of w.KwSelect) (λ h i j. done)))))
 
-    abbrev Scope : Span → Level → Line → Phrase Stmt
+    abbrev Scope : Span → Level → InLine → Phrase Stmt
     Scope at level line = Then (sep line) (λ u. Then (g.body most inner level line) (λ b. Then (end_of w.KwScope) (λ x. gives (k.Scope at b))))
 
-    like_scope : (at : Span) (level : Level) (line : Line) → Like (Scope at level line) (Scope at level line) Whatever any
+    like_scope : (at : Span) (level : Level) (line : InLine) → Like (Scope at level line) (Scope at level line) Whatever any
     like_scope at level line = like_then (like_sep line) (λ u v r. like_then (like_body level line) (λ a b q. like_then (like_end_of w.KwScope) (λ x y e. done)))
 
-    abbrev For : Span → Level → Line → Phrase Stmt
+    abbrev For : Span → Level → InLine → Phrase Stmt
     For at level line = Then (g.for_head most) (λ head. Then (g.for_tail most inner level line) (λ tail. gives (k.For at head.0 head.1 head.2.0 head.2.1 head.2.2 tail.0 tail.1)))
 
-    like_for : (at : Span) (level : Level) (line : Line) → Like (For at level line) (For at level line) Whatever any
+    like_for : (at : Span) (level : Level) (line : InLine) → Like (For at level line) (For at level line) Whatever any
     like_for at level line = like_then (like_for_head most) (λ a b r. like_then (like_for_tail level line) (λ c d q. done))
 
     -- ---- statements
 
-    from_any : {K : Unit {0} → Phrase Stmt} (line : Line) (t : Token) → Like (K tt) (K tt) Whatever any → From (Then any_token K) t (stops line)
+    from_any : {K : Unit {0} → Phrase Stmt} (line : InLine) (t : Token) → Like (K tt) (K tt) Whatever any → From (Then any_token K) t (stops line)
     from_any line t m = from_token t (like_less (stops line) m)
 
-    from_led : (t : Token) (level : Level) (line : Line) (lead : Lead) → lead_of level t.kind ≡ lead → From (g.led most inner t.at level line lead) t (stops line)
+    from_led : (t : Token) (level : Level) (line : InLine) (lead : Lead) → lead_of level t.kind ≡ lead → From (g.led most inner t.at level line lead) t (stops line)
     from_led t level line leads.Dim is = from_any line t (like_dim_with most (may_share level) t.at)
     from_led t level line leads.Static is = from_any line t (like_variables most t.at _)
     from_led t level line leads.Const is = from_any line t (like_constant most t.at)
@@ -561,12 +561,12 @@ module _ (most : ℕ) where
     from_led t level line leads.Value is = from_valued t.at t line
     from_led t level line leads.Nothing is = record { within = λ more x rest p. absurd p; moves = λ front mid new x p f. absurd p }
 
-    stmt_within : (level : Level) (line : Line) (ts : List Token) (x : Stmt) (rest : List Token) → g.statement most inner level line ts x rest → Suffixes rest ts
+    stmt_within : (level : Level) (line : InLine) (ts : List Token) (x : Stmt) (rest : List Token) → g.statement most inner level line ts x rest → Suffixes rest ts
     stmt_within level line ts x rest p =
         let s = (from_led p.0 level line (lead_of level p.0.kind) refl).within p.1 x rest (subst (λ (xs : List Token). g.led most inner p.0.at level line (lead_of level p.0.kind) xs x rest) p.2 p.3) in
         record { front = p.0 ∷ s.front; is = p.2 ∙ ap (λ (xs : List Token). p.0 ∷ xs) s.is }
 
-    stmt_moves : (level : Level) (line : Line) (front mid new : List Token) (x : Stmt) → g.statement most inner level line (front ++ mid) x mid → Fits (stops line) mid new → (z : Stmt) × g.statement most inner level line (front ++ new) z new × Unit {0}
+    stmt_moves : (level : Level) (line : InLine) (front mid new : List Token) (x : Stmt) → g.statement most inner level line (front ++ mid) x mid → Fits (stops line) mid new → (z : Stmt) × g.statement most inner level line (front ++ new) z new × Unit {0}
     stmt_moves level line front mid new x p f =
         let d = from_led p.0 level line (lead_of level p.0.kind) refl in
         let q = subst (λ (xs : List Token). g.led most inner p.0.at level line (lead_of level p.0.kind) xs x mid) p.2 p.3 in
@@ -576,10 +576,10 @@ module _ (most : ℕ) where
         let all : front ++ new ≡ p.0 ∷ (s.front ++ new) = ap (λ (xs : List Token). xs ++ new) whole in
         (m.0, (p.0, s.front ++ new, all, subst (λ (xs : List Token). g.led most inner p.0.at level line (lead_of level p.0.kind) xs m.0 new) (sym all) m.1), tt)
 
-    pub like_statement : (level : Level) (line : Line) → Like (g.statement most inner level line) (g.statement most inner level line) Whatever (stops line)
+    pub like_statement : (level : Level) (line : InLine) → Like (g.statement most inner level line) (g.statement most inner level line) Whatever (stops line)
     like_statement level line = record { within = stmt_within level line; moves = stmt_moves level line }
 
-  pub like_stmt : (room : ℕ) (level : Level) (line : Line) → Like (g.stmt most room level line) (g.stmt most room level line) Whatever (stops line)
+  pub like_stmt : (room : ℕ) (level : Level) (line : InLine) → Like (g.stmt most room level line) (g.stmt most room level line) Whatever (stops line)
   like_stmt zero level line = record { within = λ ts x rest p. absurd p; moves = λ front mid new x p f. absurd p }
   like_stmt (suc room) level line = like_statement (g.stmt most room) (like_stmt room) level line
 

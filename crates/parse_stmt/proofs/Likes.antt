@@ -7,7 +7,7 @@ use Rattle.fb_lexer.specs.declared.word.Word.{Word}
 use Rattle.parse_expr.specs.Reading.{first, next, holds, is_mark, sees, sees_word}
 use Rattle.parse_expr.proofs.Ends.{Suffixes, same_end, end_of_end}
 use Rattle.parse_expr.proofs.FirstFault.{meet}
-use Rattle.parse_parts.specs.declared.kinds.Line.{Line}
+use Rattle.parse_parts.specs.declared.kinds.InLine.{InLine}
 use Rattle.parse_parts.specs.Steps.{place_at, sees_sep}
 use Rattle.parse_stmt.specs.Phrases.{Phrase, gives, Then, either, taken, mark, word, sep, here, IsName, Listed, last, another, IsWithin, expression, place, ty}
 use Rattle.parse_stmt.specs.Phrases as phrases
@@ -145,7 +145,7 @@ pub looks_word : (which : Word) → Looks (sees_word which)
 unfolding sees_word first
 looks_word which = record { nothing = refl; alone = λ t a b. refl }
 
-pub looks_sep : (line : Line) → Looks (sees_sep line)
+pub looks_sep : (line : InLine) → Looks (sees_sep line)
 unfolding sees_sep first
 looks_sep line = record { nothing = refl; alone = λ t a b. refl }
 
@@ -155,7 +155,7 @@ like_mark which = like_taken (sees which) (looks_mark which)
 pub like_word : (which : Word) → Like (word which) (word which) Whatever any
 like_word which = like_taken (sees_word which) (looks_word which)
 
-pub like_sep : (line : Line) → Like (sep line) (sep line) Whatever any
+pub like_sep : (line : InLine) → Like (sep line) (sep line) Whatever any
 like_sep line = like_taken (sees_sep line) (looks_sep line)
 
 -- a token, whichever

@@ -1,4 +1,4 @@
--- Phrases in a row, and phrases that may be missing.
+-- Phrases in a series, and phrases that may be missing.
 use Rattle.std.proofs.Common.{◌≡◌, ◌<◌, ℕ, zero, suc, ◌+◌, Bool, true, false, if◌then◌else◌, List, [], ◌∷◌, ◌++◌, length, Option, Some, None, Ok, refl, sym, ap, ◌∙◌, subst, ◌⊎◌, inl, inr, arith, append_assoc}
 use Rattle.fb_lexer.specs.declared.token.Token.{Token}
 use Rattle.fb_lexer.specs.declared.token.TokenKind.{TokenKind}

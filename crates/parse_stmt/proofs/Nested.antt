@@ -18,8 +18,8 @@ use Rattle.parse_expr.specs.Reading.{first, next, sees_word, Reader, Outcome, an
 use Rattle.parse_expr.proofs.Sound.{Done, bind, by_test, map_done}
 use Rattle.parse_expr.proofs.Ends.{Suffixes, no_longer}
 use Rattle.parse_parts.specs.declared.kinds.Level.{Level}
-use Rattle.parse_parts.specs.declared.kinds.Line.{Line}
-use Rattle.parse_parts.specs.declared.kinds.Line.TheVariants as lines
+use Rattle.parse_parts.specs.declared.kinds.InLine.{InLine}
+use Rattle.parse_parts.specs.declared.kinds.InLine.TheVariants as lines
 use Rattle.parse_parts.specs.declared.kinds.Spot.{Spot}
 use Rattle.parse_parts.specs.declared.kinds.Closer.{Closer}
 use Rattle.parse_parts.specs.declared.kinds.Closer.TheVariants as closers
@@ -28,7 +28,7 @@ use Rattle.parse_parts.specs.Steps.{place_at, last_before, sees_sep, repeat}
 use Rattle.parse_stmt.specs.Blocks.{sees_end, closed}
 use Rattle.parse_stmt.specs.Blocks as reading
 use Rattle.parse_stmt.specs.Phrases.{Phrase, gives, Then, either, word, sep, expression}
-use Rattle.parse_stmt.specs.Statements.{Row, last, another, Many}
+use Rattle.parse_stmt.specs.Statements.{Series, last, another, Many}
 use Rattle.parse_stmt.specs.Statements as grammar
 use Rattle.parse_stmt.proofs.Exact.{next_kind, Follow, Exact, always, exact_then, exact_behind, same_end, end_of_end, leave_next}
 use Rattle.parse_stmt.proofs.Smallest.{exact_word, exact_mark, exact_sep, exact_here, exact_name, exact_whole, ends_expression, no_pointer, next_word, starts_mark}
@@ -99,104 +99,104 @@ pub both : {A : Type 0} (P Q : A → List Token → Type 0) (o : Outcome A) → 
 both P Q (Ok p) s t = (s, t)
 both P Q (Err e) s t = tt
 
-module _ (deep : ℕ) (inner : Spot → Reader Stmt) (room : ℕ) (Inner : Level → Line → Phrase Stmt) (inside : Inside inner room Inner) where
-  -- ---- rows
+module _ (deep : ℕ) (inner : Spot → Reader Stmt) (room : ℕ) (Inner : Level → InLine → Phrase Stmt) (inside : Inside inner room Inner) where
+  -- ---- series
 
   module _ (level : Level) where
-    abbrev RowRest : List Token → List Stmt → List Token → Type 0
-    RowRest ts all rest = ((all ≡ []) × (rest ≡ ts) × (sees_sep lines.Row ts ≡ false)) ⊎ ((sees_sep lines.Row ts ≡ true) × Row (Inner level lines.Row) (next ts) all rest)
+    abbrev SeriesRest : List Token → List Stmt → List Token → Type 0
+    SeriesRest ts all rest = ((all ≡ []) × (rest ≡ ts) × (sees_sep lines.Series ts ≡ false)) ⊎ ((sees_sep lines.Series ts ≡ true) × Series (Inner level lines.Series) (next ts) all rest)
 
-    row_joins : (ts between rest : List Token) (x : Stmt) (all : List Stmt) → Inner level lines.Row ts x between → RowRest between all rest → Row (Inner level lines.Row) ts (x ∷ all) rest
-    row_joins ts between rest x all t (inl r) = rw (r.0, r.1) (last ts between x t r.2)
-    row_joins ts between rest x all t (inr r) = another ts between rest x all t r.0 r.1
+    series_joins : (ts between rest : List Token) (x : Stmt) (all : List Stmt) → Inner level lines.Series ts x between → SeriesRest between all rest → Series (Inner level lines.Series) ts (x ∷ all) rest
+    series_joins ts between rest x all t (inl r) = rw (r.0, r.1) (last ts between x t r.2)
+    series_joins ts between rest x all t (inr r) = another ts between rest x all t r.0 r.1
 
-    record RowSplit (ts : List Token) (all : List Stmt) (rest : List Token) : Type 0 where
+    record SeriesSplit (ts : List Token) (all : List Stmt) (rest : List Token) : Type 0 where
       x : Stmt
       more : List Stmt
       between : List Token
       is : all ≡ x ∷ more
-      stands : Inner level lines.Row ts x between
-      behind : RowRest between more rest
+      stands : Inner level lines.Series ts x between
+      behind : SeriesRest between more rest
 
-    row_splits : (ts : List Token) (all : List Stmt) (rest : List Token) → Row (Inner level lines.Row) ts all rest → RowSplit ts all rest
-    row_splits ts all rest (last a b x t none_follows) = record { x = x; more = []; between = rest; is = refl; stands = t; behind = inl (refl, refl, none_follows) }
-    row_splits ts all rest (another a between b x more t is r) = record { x = x; more = more; between = between; is = refl; stands = t; behind = inr (is, r) }
+    series_splits : (ts : List Token) (all : List Stmt) (rest : List Token) → Series (Inner level lines.Series) ts all rest → SeriesSplit ts all rest
+    series_splits ts all rest (last a b x t none_follows) = record { x = x; more = []; between = rest; is = refl; stands = t; behind = inl (refl, refl, none_follows) }
+    series_splits ts all rest (another a between b x more t is r) = record { x = x; more = more; between = between; is = refl; stands = t; behind = inr (is, r) }
 
-    abbrev row_turns : ℕ → List Stmt × Bool → Reader (List Stmt)
-    row_turns n q = if q.1 then repeat (reading.row_turn (suc deep) inner room level) n q.0 else pure q.0
+    abbrev series_turns : ℕ → List Stmt × Bool → Reader (List Stmt)
+    series_turns n q = if q.1 then repeat (reading.series_turn (suc deep) inner room level) n q.0 else pure q.0
 
-    record RowRead (found : List Stmt) (ts : List Token) (all : List Stmt) (rest : List Token) : Type 0 where
+    record ProductionRead (found : List Stmt) (ts : List Token) (all : List Stmt) (rest : List Token) : Type 0 where
       behind : List Stmt
       is : all ≡ found ++ behind
-      are : RowRest ts behind rest
+      are : SeriesRest ts behind rest
 
-    row_sound : (n : ℕ) (found : List Stmt) (ts : List Token) → Done (RowRead found ts) (repeat (reading.row_turn (suc deep) inner room level) n found ts)
-    unfolding repeat reading.row_turn
-    row_sound zero found ts = tt
-    row_sound (suc n) found ts =
-        by_test (λ (o : Outcome (List Stmt × Bool)). Done (RowRead found ts) (and_then o (row_turns n))) (sees_sep lines.Row ts) _ _
-        (λ is. bind (λ q rest. (x : Stmt) × Inner level lines.Row (next ts) x rest × (q ≡ (found ++ x ∷ [], true))) (RowRead found ts) _ (row_turns n)
-        (bind (Inner level lines.Row (next ts)) (λ q rest. (x : Stmt) × Inner level lines.Row (next ts) x rest × (q ≡ (found ++ x ∷ [], true))) _ _ ((inside.exact level lines.Row Expected).sound (next ts)) (λ x rest t. (x, t, refl)))
-        (λ q rest t. rw (t.2) (map_done (RowRead (found ++ t.0 ∷ []) rest) (RowRead found ts) _ (row_sound n (found ++ t.0 ∷ []) rest)
-        (λ all left r. record { behind = t.0 ∷ r.behind; is = r.is ∙ append_assoc found (t.0 ∷ []) r.behind; are = inr (is, row_joins (next ts) rest left t.0 r.behind t.1 r.are) }))))
+    production_sound : (n : ℕ) (found : List Stmt) (ts : List Token) → Done (ProductionRead found ts) (repeat (reading.series_turn (suc deep) inner room level) n found ts)
+    unfolding repeat reading.series_turn
+    production_sound zero found ts = tt
+    production_sound (suc n) found ts =
+        by_test (λ (o : Outcome (List Stmt × Bool)). Done (ProductionRead found ts) (and_then o (series_turns n))) (sees_sep lines.Series ts) _ _
+        (λ is. bind (λ q rest. (x : Stmt) × Inner level lines.Series (next ts) x rest × (q ≡ (found ++ x ∷ [], true))) (ProductionRead found ts) _ (series_turns n)
+        (bind (Inner level lines.Series (next ts)) (λ q rest. (x : Stmt) × Inner level lines.Series (next ts) x rest × (q ≡ (found ++ x ∷ [], true))) _ _ ((inside.exact level lines.Series Expected).sound (next ts)) (λ x rest t. (x, t, refl)))
+        (λ q rest t. rw (t.2) (map_done (ProductionRead (found ++ t.0 ∷ []) rest) (ProductionRead found ts) _ (production_sound n (found ++ t.0 ∷ []) rest)
+        (λ all left r. record { behind = t.0 ∷ r.behind; is = r.is ∙ append_assoc found (t.0 ∷ []) r.behind; are = inr (is, series_joins (next ts) rest left t.0 r.behind t.1 r.are) }))))
         (λ no. record { behind = []; is = sym (append-nil found); are = inl (refl, refl, no) })
 
-    rest_closes : (ts : List Token) (all : List Stmt) (rest : List Token) → RowRest ts all rest → closes (next_kind rest) ≡ true → closes (next_kind ts) ≡ true
+    rest_closes : (ts : List Token) (all : List Stmt) (rest : List Token) → SeriesRest ts all rest → closes (next_kind rest) ≡ true → closes (next_kind ts) ≡ true
     rest_closes ts all rest (inl r) f = ap (λ (m : List Token). closes (next_kind m)) (sym r.1) ∙ f
-    rest_closes ts all rest (inr r) f = sep_closes lines.Row ts r.0
+    rest_closes ts all rest (inr r) f = sep_closes lines.Series ts r.0
 
-    row_finds : (n : ℕ) (found : List Stmt) (ts : List Token) (all : List Stmt) (rest : List Token) → RowRest ts all rest → closes (next_kind rest) ≡ true → length ts < n
-        → repeat (reading.row_turn (suc deep) inner room level) n found ts ≡ Ok (found ++ all, rest)
-    unfolding repeat reading.row_turn
-    row_finds zero found ts all rest r f few = absurd (omega arith)
-    row_finds (suc n) found ts all rest (inl r) f few = rw (r.0, r.1, r.2, append-nil found) refl
-    row_finds (suc n) found ts all rest (inr r) f few =
-        let p = row_splits (next ts) all rest r.1 in
-        let e = inside.exact level lines.Row Expected in
+    series_finds : (n : ℕ) (found : List Stmt) (ts : List Token) (all : List Stmt) (rest : List Token) → SeriesRest ts all rest → closes (next_kind rest) ≡ true → length ts < n
+        → repeat (reading.series_turn (suc deep) inner room level) n found ts ≡ Ok (found ++ all, rest)
+    unfolding repeat reading.series_turn
+    series_finds zero found ts all rest r f few = absurd (omega arith)
+    series_finds (suc n) found ts all rest (inl r) f few = rw (r.0, r.1, r.2, append-nil found) refl
+    series_finds (suc n) found ts all rest (inr r) f few =
+        let p = series_splits (next ts) all rest r.1 in
+        let e = inside.exact level lines.Series Expected in
         let within = no_longer (e.within (next ts) p.x p.between p.stands) in
-        let less = sep_less lines.Row ts r.0 in
+        let less = sep_less lines.Series ts r.0 in
         rw (r.0, e.finds (next ts) p.x p.between p.stands (rest_closes p.between p.more rest p.behind f))
-        (row_finds n (found ++ p.x ∷ []) p.between p.more rest p.behind f (omega arith) ∙ ap (λ (xs : List Stmt). Ok (xs, rest)) (append_assoc found (p.x ∷ []) p.more) ∙ ap (λ (xs : List Stmt). Ok (found ++ xs, rest)) (sym p.is))
+        (series_finds n (found ++ p.x ∷ []) p.between p.more rest p.behind f (omega arith) ∙ ap (λ (xs : List Stmt). Ok (xs, rest)) (append_assoc found (p.x ∷ []) p.more) ∙ ap (λ (xs : List Stmt). Ok (found ++ xs, rest)) (sym p.is))
 
-    row_within : (ts : List Token) (all : List Stmt) (rest : List Token) → Row (Inner level lines.Row) ts all rest → Suffixes rest ts
-    row_within ts all rest (last a b x t none_follows) = (inside.exact level lines.Row Expected).within ts x rest t
-    row_within ts all rest (another a between b x more t is r) =
-        end_of_end (row_within (next between) more rest r) (end_of_end (leave_next between) ((inside.exact level lines.Row Expected).within ts x between t))
+    series_within : (ts : List Token) (all : List Stmt) (rest : List Token) → Series (Inner level lines.Series) ts all rest → Suffixes rest ts
+    series_within ts all rest (last a b x t none_follows) = (inside.exact level lines.Series Expected).within ts x rest t
+    series_within ts all rest (another a between b x more t is r) =
+        end_of_end (series_within (next between) more rest r) (end_of_end (leave_next between) ((inside.exact level lines.Series Expected).within ts x between t))
 
-    first_sound : (ts : List Token) (x : Stmt) (between : List Token) → Inner level lines.Row ts x between → Done (Row (Inner level lines.Row) ts) (reading.row_from (suc deep) inner room level x between)
-    unfolding reading.row_from
-    first_sound ts x between t = map_done (RowRead (x ∷ []) between) (Row (Inner level lines.Row) ts) _ (row_sound (length between + 1) (x ∷ []) between)
-        (λ all rest r. rw (r.is) (row_joins ts between rest x r.behind t r.are))
+    first_sound : (ts : List Token) (x : Stmt) (between : List Token) → Inner level lines.Series ts x between → Done (Series (Inner level lines.Series) ts) (reading.series_from (suc deep) inner room level x between)
+    unfolding reading.series_from
+    first_sound ts x between t = map_done (ProductionRead (x ∷ []) between) (Series (Inner level lines.Series) ts) _ (production_sound (length between + 1) (x ∷ []) between)
+        (λ all rest r. rw (r.is) (series_joins ts between rest x r.behind t r.are))
 
-    pub ended_row : (other : FaultKind) → Ended (reading.row (suc deep) inner room level other) (Row (Inner level lines.Row)) (coming closes)
-    unfolding reading.row reading.row_from
-    ended_row other = record {
-      sound = λ ts. bind (Inner level lines.Row ts) (Row (Inner level lines.Row) ts) (inner (record { level = level; line = lines.Row; other = other }) ts) (reading.row_from (suc deep) inner room level)
-          ((inside.exact level lines.Row other).sound ts) (λ x between t. first_sound ts x between t);
+    pub ended_series : (other : FaultKind) → Ended (reading.series (suc deep) inner room level other) (Series (Inner level lines.Series)) (coming closes)
+    unfolding reading.series reading.series_from
+    ended_series other = record {
+      sound = λ ts. bind (Inner level lines.Series ts) (Series (Inner level lines.Series) ts) (inner (record { level = level; line = lines.Series; other = other }) ts) (reading.series_from (suc deep) inner room level)
+          ((inside.exact level lines.Series other).sound ts) (λ x between t. first_sound ts x between t);
       finds = λ ts all rest r f.
-          let p = row_splits ts all rest r in
-          rw ((inside.exact level lines.Row other).finds ts p.x p.between p.stands (rest_closes p.between p.more rest p.behind f))
-          (row_finds (length p.between + 1) (p.x ∷ []) p.between p.more rest p.behind f (omega arith) ∙ ap (λ (xs : List Stmt). Ok (xs, rest)) (sym p.is));
-      within = row_within;
+          let p = series_splits ts all rest r in
+          rw ((inside.exact level lines.Series other).finds ts p.x p.between p.stands (rest_closes p.between p.more rest p.behind f))
+          (series_finds (length p.between + 1) (p.x ∷ []) p.between p.more rest p.behind f (omega arith) ∙ ap (λ (xs : List Stmt). Ok (xs, rest)) (sym p.is));
+      within = series_within;
     }
 
     -- ---- the one-line If
 
-    pub ended_then_row : Ended (reading.row_then (suc deep) inner room level) (grammar.then_row (suc deep) Inner level) (coming closes)
-    unfolding reading.row_then reading.row_end
-    ended_then_row = ended_placed (λ ts all rest. roll-Block (record { stmts = all; end = if sees_word w.KwElse rest then place_at rest else last_before ts rest })) (ended_row ExtraText)
+    pub ended_then_series : Ended (reading.series_then (suc deep) inner room level) (grammar.then_series (suc deep) Inner level) (coming closes)
+    unfolding reading.series_then reading.series_end
+    ended_then_series = ended_placed (λ ts all rest. roll-Block (record { stmts = all; end = if sees_word w.KwElse rest then place_at rest else last_before ts rest })) (ended_series ExtraText)
 
-    ended_else_row : Ended (reading.row_else (suc deep) inner room level) (grammar.else_row (suc deep) Inner level) (coming closes)
-    unfolding reading.row_else
-    ended_else_row = ended_placed (λ ts all rest. roll-Block (record { stmts = all; end = last_before ts rest })) (ended_row Expected)
+    ended_else_series : Ended (reading.series_else (suc deep) inner room level) (grammar.else_series (suc deep) Inner level) (coming closes)
+    unfolding reading.series_else
+    ended_else_series = ended_placed (λ ts all rest. roll-Block (record { stmts = all; end = last_before ts rest })) (ended_series Expected)
 
     abbrev no_else : List Token → Bool
     no_else rest = if sees_word w.KwElse rest then false else true
 
-    other_sound : (ts : List Token) → Done (grammar.row_other (suc deep) Inner level ts) (reading.row_other (suc deep) inner room level ts)
-    unfolding reading.row_other
-    other_sound ts = by_test (λ (o : Outcome (Option (Span × Block))). Done (grammar.row_other (suc deep) Inner level ts) o) (sees_word w.KwElse ts) _ _
-        (λ is. bind (grammar.else_row (suc deep) Inner level (next ts)) (grammar.row_other (suc deep) Inner level ts) (reading.row_else (suc deep) inner room level (next ts)) _ (ended_else_row.sound (next ts))
+    other_sound : (ts : List Token) → Done (grammar.series_other (suc deep) Inner level ts) (reading.series_other (suc deep) inner room level ts)
+    unfolding reading.series_other
+    other_sound ts = by_test (λ (o : Outcome (Option (Span × Block))). Done (grammar.series_other (suc deep) Inner level ts) o) (sees_word w.KwElse ts) _ _
+        (λ is. bind (grammar.else_series (suc deep) Inner level (next ts)) (grammar.series_other (suc deep) Inner level ts) (reading.series_else (suc deep) inner room level (next ts)) _ (ended_else_series.sound (next ts))
         (λ b rest t. inl (record { given = place_at ts; between = ts; front = (refl, refl); back = record { given = tt; between = next ts; front = (is, refl); back = record { given = b; between = rest; front = t; back = (refl, refl) } } })))
         (λ is. inr ((refl, refl), rw is refl))
 
@@ -204,39 +204,39 @@ module _ (deep : ℕ) (inner : Spot → Reader Stmt) (room : ℕ) (Inner : Level
     none_else ts true is t = cc
     none_else ts false is t = refl
 
-    other_finds : (ts : List Token) (a : Option (Span × Block)) (rest : List Token) → grammar.row_other (suc deep) Inner level ts a rest → coming closes rest ≡ true → reading.row_other (suc deep) inner room level ts ≡ Ok (a, rest)
-    unfolding reading.row_other
+    other_finds : (ts : List Token) (a : Option (Span × Block)) (rest : List Token) → grammar.series_other (suc deep) Inner level ts a rest → coming closes rest ≡ true → reading.series_other (suc deep) inner room level ts ≡ Ok (a, rest)
+    unfolding reading.series_other
     other_finds ts a rest (inl t) f =
-        let k = token_then (sees_word w.KwElse) (λ at. Then (grammar.else_row (suc deep) Inner level) (λ b. gives (Some (at, b)))) ts a rest t in
+        let k = token_then (sees_word w.KwElse) (λ at. Then (grammar.else_series (suc deep) Inner level) (λ b. gives (Some (at, b)))) ts a rest t in
         rw (k.is) (ap (λ (o : Outcome Block). and_then o (λ b r. Ok (Some (place_at ts, b), r)))
-        (ended_else_row.finds (next ts) k.stands.given k.stands.between k.stands.front (ap (coming closes) (sym k.stands.back.1) ∙ f)) ∙ same_answer _ a k.stands.between rest k.stands.back.0 k.stands.back.1)
+        (ended_else_series.finds (next ts) k.stands.given k.stands.between k.stands.front (ap (coming closes) (sym k.stands.back.1) ∙ f)) ∙ same_answer _ a k.stands.between rest k.stands.back.0 k.stands.back.1)
     other_finds ts a rest (inr t) f =
         rw (none_else ts (sees_word w.KwElse ts) refl (ap no_else (sym t.0.1) ∙ t.1)) (same_answer _ a ts rest t.0.0 t.0.1)
 
-    other_within : (ts : List Token) (a : Option (Span × Block)) (rest : List Token) → grammar.row_other (suc deep) Inner level ts a rest → Suffixes rest ts
+    other_within : (ts : List Token) (a : Option (Span × Block)) (rest : List Token) → grammar.series_other (suc deep) Inner level ts a rest → Suffixes rest ts
     other_within ts a rest (inl t) =
-        let k = token_then (sees_word w.KwElse) (λ at. Then (grammar.else_row (suc deep) Inner level) (λ b. gives (Some (at, b)))) ts a rest t in
-        rw (k.stands.back.1) (end_of_end (ended_else_row.within (next ts) k.stands.given k.stands.between k.stands.front) (leave_next ts))
+        let k = token_then (sees_word w.KwElse) (λ at. Then (grammar.else_series (suc deep) Inner level) (λ b. gives (Some (at, b)))) ts a rest t in
+        rw (k.stands.back.1) (end_of_end (ended_else_series.within (next ts) k.stands.given k.stands.between k.stands.front) (leave_next ts))
     other_within ts a rest (inr t) = rw (t.0.1) (same_end ts)
 
-    ended_other : Ended (reading.row_other (suc deep) inner room level) (grammar.row_other (suc deep) Inner level) (coming closes)
+    ended_other : Ended (reading.series_other (suc deep) inner room level) (grammar.series_other (suc deep) Inner level) (coming closes)
     ended_other = record { sound = other_sound; finds = other_finds; within = other_within }
 
-    other_closes : (ts : List Token) (a : Option (Span × Block)) (rest : List Token) → grammar.row_other (suc deep) Inner level ts a rest → coming closes rest ≡ true → coming closes ts ≡ true
+    other_closes : (ts : List Token) (a : Option (Span × Block)) (rest : List Token) → grammar.series_other (suc deep) Inner level ts a rest → coming closes rest ≡ true → coming closes ts ≡ true
     other_closes ts a rest (inl t) f =
-        let k = token_then (sees_word w.KwElse) (λ at. Then (grammar.else_row (suc deep) Inner level) (λ b. gives (Some (at, b)))) ts a rest t in
+        let k = token_then (sees_word w.KwElse) (λ at. Then (grammar.else_series (suc deep) Inner level) (λ b. gives (Some (at, b)))) ts a rest t in
         ap closes (next_word w.KwElse ts k.is)
     other_closes ts a rest (inr t) f = ap (coming closes) (sym t.0.1) ∙ f
 
-    pub row_opens : (at : Span) (condition : Expr) (ts : List Token) (x : Stmt) (rest : List Token) → grammar.if_row (suc deep) Inner at condition level ts x rest → coming closes rest ≡ true → (other : Line) → sees_sep other ts ≡ false
-    row_opens at condition ts x rest t f other =
-        let p = row_splits ts t.front.0 t.between t.front.1 in
+    pub series_opens : (at : Span) (condition : Expr) (ts : List Token) (x : Stmt) (rest : List Token) → grammar.if_series (suc deep) Inner at condition level ts x rest → coming closes rest ≡ true → (other : InLine) → sees_sep other ts ≡ false
+    series_opens at condition ts x rest t f other =
+        let p = series_splits ts t.front.0 t.between t.front.1 in
         let c : closes (next_kind t.between) ≡ true = other_closes t.between t.back.given t.back.between t.back.front (ap (coming closes) (sym t.back.back.1) ∙ f) in
-        (inside.opens level lines.Row ts p.x p.between p.stands (rest_closes p.between p.more t.between p.behind c)).no_sep other
+        (inside.opens level lines.Series ts p.x p.between p.stands (rest_closes p.between p.more t.between p.behind c)).no_sep other
 
-    pub ended_if_row : (at : Span) (condition : Expr) → Ended (reading.if_row (suc deep) inner room at condition level) (grammar.if_row (suc deep) Inner at condition level) (coming closes)
-    unfolding reading.if_row
-    ended_if_row at condition = ended_then ended_then_row (λ one. ended_made (λ other. s.IfLine at condition one other) ended_other)
+    pub ended_if_series : (at : Span) (condition : Expr) → Ended (reading.if_series (suc deep) inner room at condition level) (grammar.if_series (suc deep) Inner at condition level) (coming closes)
+    unfolding reading.if_series
+    ended_if_series at condition = ended_then ended_then_series (λ one. ended_made (λ other. s.IfLine at condition one other) ended_other)
         (λ one ts b rest t d. other_closes ts t.given t.between t.front (ap (coming closes) (sym t.back.1) ∙ d))
 
   -- ---- blocks and what ends them
@@ -256,13 +256,13 @@ module _ (deep : ℕ) (inner : Spot → Reader Stmt) (room : ℕ) (Inner : Level
       let n : sees_word which (next ts) ≡ true = ap (λ (m : List Token). sees_word which (next m)) (sym same) ∙ ap (sees_word which) (sym t.back.front.1) ∙ t.back.back.front.0 in
       rw (e) n
 
-  body_both : (level : Level) (line : Line) (closer : Closer) (ts : List Token)
+  body_both : (level : Level) (line : InLine) (closer : Closer) (ts : List Token)
       → Done (λ b rest. grammar.body (suc deep) Inner level line ts b rest × (closed closer rest ≡ true)) (reading.body (suc deep) inner room level line closer ts)
   body_both level line closer ts =
       both (grammar.body (suc deep) Inner level line ts) (λ b rest. closed closer rest ≡ true) (reading.body (suc deep) inner room level line closer ts) ((ended_body deep inner room Inner inside level line closer).sound ts) (body_ends deep inner room Inner inside level line closer ts)
 
   -- a block, and the word that ends it
-  ended_loop : {B : Type 0} (level : Level) (line : Line) (closer : Closer) (which : Word) → ((ts : List Token) → closed closer ts ≡ sees_word which ts)
+  ended_loop : {B : Type 0} (level : Level) (line : InLine) (closer : Closer) (which : Word) → ((ts : List Token) → closed closer ts ≡ sees_word which ts)
       → (k : Block → Reader B) {K : Block → Phrase B} {D : List Token → Bool} → ((b : Block) → Ended (k b) (K b) D)
       → Ended (λ ts. and_then (reading.body (suc deep) inner room level line closer ts) (λ b. λ us. and_then (take_token us) (λ u. k b))) (Then (grammar.body (suc deep) Inner level line) (λ b. Then (word which) (λ u. K b))) D
   ended_loop {B = B} level line closer which same k {K = K} {D = D} x = record {
@@ -279,7 +279,7 @@ module _ (deep : ℕ) (inner : Spot → Reader Stmt) (room : ℕ) (Inner : Level
 
   -- ---- the If of several lines
 
-  module _ (level : Level) (line : Line) where
+  module _ (level : Level) (line : InLine) where
     abbrev pub in_branches : List Token → Bool
     in_branches = closed closers.Branches
 
@@ -325,23 +325,23 @@ module _ (deep : ℕ) (inner : Spot → Reader Stmt) (room : ℕ) (Inner : Level
         in_branches behind_branches (λ us is. rw is refl) (λ us e. no_first (sees_word w.KwElseIf us) (in_branches us) e) ts t.given t.between t.front
         (else_by t.between t.back.given t.back.between t.back.front (end_seen w.KwIf t.back.between t.back.back.given t.back.back.between t.back.back.front)))
 
-  no_if_line : (line : Line) (at : Span) (condition : Expr) (level : Level) (ts : List Token) (x : Stmt) (rest : List Token) → grammar.if_line (suc deep) Inner line at condition level ts x rest → coming closes rest ≡ true → (other : Line) → sees_sep other ts ≡ false
-  no_if_line lines.Free at condition level ts x rest t f other = row_opens level at condition ts x rest t f other
-  no_if_line lines.Row at condition level ts x rest t f other = row_opens level at condition ts x rest t f other
+  no_if_line : (line : InLine) (at : Span) (condition : Expr) (level : Level) (ts : List Token) (x : Stmt) (rest : List Token) → grammar.if_line (suc deep) Inner line at condition level ts x rest → coming closes rest ≡ true → (other : InLine) → sees_sep other ts ≡ false
+  no_if_line lines.Free at condition level ts x rest t f other = series_opens level at condition ts x rest t f other
+  no_if_line lines.Series at condition level ts x rest t f other = series_opens level at condition ts x rest t f other
   no_if_line lines.Inner at condition level ts x rest t f other = absurd t
 
-  ended_if_line : (line : Line) (at : Span) (condition : Expr) (level : Level) → Ended (reading.if_by (suc deep) inner room line at condition level) (grammar.if_line (suc deep) Inner line at condition level) (coming closes)
-  ended_if_line lines.Free at condition level = ended_if_row level at condition
-  ended_if_line lines.Row at condition level = ended_if_row level at condition
+  ended_if_line : (line : InLine) (at : Span) (condition : Expr) (level : Level) → Ended (reading.if_by (suc deep) inner room line at condition level) (grammar.if_line (suc deep) Inner line at condition level) (coming closes)
+  ended_if_line lines.Free at condition level = ended_if_series level at condition
+  ended_if_line lines.Series at condition level = ended_if_series level at condition
   ended_if_line lines.Inner at condition level = record { sound = λ ts. tt; finds = λ ts x rest t d. absurd t; within = λ ts x rest t. absurd t }
 
-  pub exact_if_behind : (at : Span) (condition : Expr) (level : Level) (line : Line) → Exact (reading.if_behind (suc deep) inner room at condition level line)
+  pub exact_if_behind : (at : Span) (condition : Expr) (level : Level) (line : InLine) → Exact (reading.if_behind (suc deep) inner room at condition level line)
       (either (Then (sep line) (λ (u : Unit {0}). grammar.if_block (suc deep) Inner at condition (level_within level) (line_within line))) (grammar.if_line (suc deep) Inner line at condition (level_within level))) closes
   unfolding reading.if_behind
   exact_if_behind at condition level line = exact_behind (sees_sep line) (as_exact (ended_if_block (level_within level) (line_within line) at condition)) (as_exact (ended_if_line line at condition (level_within level)))
       (λ ts x rest t f. no_if_line line at condition (level_within level) ts x rest t f line)
 
-  pub exact_if : (at : Span) (level : Level) (line : Line) → Exact (reading.if_ (suc deep) inner room at level line) (grammar.if_ (suc deep) Inner at level line) closes
+  pub exact_if : (at : Span) (level : Level) (line : InLine) → Exact (reading.if_ (suc deep) inner room at level line) (grammar.if_ (suc deep) Inner at level line) closes
   unfolding reading.if_ reading.if_behind
   exact_if at level line = exact_taking (exact_then (exact_whole deep) (λ condition. exact_then (exact_word w.KwThen)
       (λ u. exact_behind (sees_sep line) (as_exact (ended_if_block (level_within level) (line_within line) at condition)) (as_exact (ended_if_line line at condition (level_within level)))
@@ -351,17 +351,17 @@ module _ (deep : ℕ) (inner : Spot → Reader Stmt) (room : ℕ) (Inner : Level
 
   -- ---- loops
 
-  sep_expression : (line : Line) (ts : List Token) → sees_sep line ts ≡ true → ends_expression (next_kind ts) ≡ true
+  sep_expression : (line : InLine) (ts : List Token) → sees_sep line ts ≡ true → ends_expression (next_kind ts) ≡ true
   sep_expression line ts is = closes_expression (next_kind ts) (sep_closes line ts is)
 
-  pub exact_while : (at : Span) (level : Level) (line : Line) → Exact (reading.while_ (suc deep) inner room at level line) (grammar.while_ (suc deep) Inner at level line) closes
+  pub exact_while : (at : Span) (level : Level) (line : InLine) → Exact (reading.while_ (suc deep) inner room at level line) (grammar.while_ (suc deep) Inner at level line) closes
   unfolding reading.while_
   exact_while at level line = exact_taking (exact_then (exact_whole deep) (λ condition. exact_then (exact_sep line)
       (λ u. as_exact (ended_loop level line closers.Wend w.KwWend (λ ts. refl) (λ b. pure (s.While at condition b)) (λ b. ended_gives (s.While at condition b) (coming closes))))
       (λ u ts b rest t f. refl))
       (λ condition ts b rest t f. sep_expression line ts t.front.0))
 
-  pub exact_do : (at : Span) (level : Level) (line : Line) → Exact (reading.do_ (suc deep) inner room at level line) (grammar.do_ (suc deep) Inner at level line) closes
+  pub exact_do : (at : Span) (level : Level) (line : InLine) → Exact (reading.do_ (suc deep) inner room at level line) (grammar.do_ (suc deep) Inner at level line) closes
   unfolding reading.do_
   exact_do at level line = exact_taking (exact_then (exact_any_test deep) (λ one. exact_then (exact_sep line)
       (λ u. as_exact (ended_loop level line closers.Loop w.KwLoop (λ ts. refl) _ (λ b. as_ended (exact_made (λ other. s.Do at one b other) (exact_last_test deep one)))))
@@ -375,20 +375,20 @@ module _ (deep : ℕ) (inner : Spot → Reader Stmt) (room : ℕ) (Inner : Level
       (λ t. starts_mark Equal _ closes equals refl))
       (λ n ts b rest t f. refl)
 
-  exact_for_tail : (level : Level) (line : Line) → Exact (reading.for_tail (suc deep) inner room level line) (grammar.for_tail (suc deep) Inner level line) closes
+  exact_for_tail : (level : Level) (line : InLine) → Exact (reading.for_tail (suc deep) inner room level line) (grammar.for_tail (suc deep) Inner level line) closes
   unfolding reading.for_tail
   exact_for_tail level line = exact_then (exact_sep line)
       (λ v. as_exact (ended_loop level line closers.Next w.KwNext (λ ts. refl) _ (λ b. as_ended (exact_made (λ again. (b, again)) exact_any_name))))
       (λ v ts b rest t f. refl)
 
-  pub exact_for : (at : Span) (level : Level) (line : Line) → Exact (reading.for_ (suc deep) inner room at level line) (grammar.for_ (suc deep) Inner at level line) closes
+  pub exact_for : (at : Span) (level : Level) (line : InLine) → Exact (reading.for_ (suc deep) inner room at level line) (grammar.for_ (suc deep) Inner at level line) closes
   unfolding reading.for_
   exact_for at level line = exact_taking (exact_then exact_for_head (λ head. exact_made (λ tail. s.For at head.0 head.1 head.2.0 head.2.1 head.2.2 tail.0 tail.1) (exact_for_tail level line))
       (λ head ts b rest t f. sep_closes line ts t.front.front.0))
 
   -- ---- Select and Scope
 
-  module _ (level : Level) (line : Line) where
+  module _ (level : Level) (line : InLine) where
     abbrev pub in_cases : List Token → Bool
     in_cases = closed closers.Cases
 

@@ -9,16 +9,16 @@ use Rattle.fb_lexer.specs.declared.token.TokenKind.TheVariants as kinds
 use Rattle.fb_lexer.specs.declared.token.Mark.{Mark}
 use Rattle.fb_lexer.specs.declared.word.Word.{Word}
 use Rattle.fb_lexer.specs.declared.word.Word.TheVariants as w
-use Rattle.parse_expr.specs.declared.stop.Stop.TheVariants as stops
+use Rattle.parse_expr.specs.declared.error.ReadErr.TheVariants as read_errs
 use Rattle.parse_expr.specs.Words.{is_refused, suffix_of, binary_of, is_pointer}
 use Rattle.parse_expr.specs.Reading.{first, is_mark, is_word}
 use Rattle.parse_expr.specs.Types.{name_by}
-use Rattle.parse_expr.specs.Rows.{begins_some, begins_operand}
+use Rattle.parse_expr.specs.Productions.{begins_some, begins_operand}
 use Rattle.parse_expr.specs.Expr.{at_level, begins, begins_as}
 use Rattle.parse_expr.specs.Faults.{is_refused_kind}
 use Rattle.parse_expr.proofs.Refused.{nowhere}
-use Rattle.parse_expr.proofs.Twins.{Place, Gap, Weak, Empty, empty_end}
-use Rattle.parse_parts.specs.declared.kinds.Line.{Line}
+use Rattle.parse_expr.proofs.Twins.{Position, Gap, Weak, Empty, empty_end}
+use Rattle.parse_parts.specs.declared.kinds.InLine.{InLine}
 use Rattle.parse_parts.specs.declared.kinds.Level.{Level}
 use Rattle.parse_parts.specs.declared.kinds.Lead.TheVariants as leads
 use Rattle.parse_parts.specs.Words.{is_sep, word_lead, lead_of, allowed}
@@ -59,7 +59,7 @@ odd_word_by which kind true test is plain = let bad : true ≡ false = sym is �
 pub odd_word : (which : Word) (kind : TokenKind) → is_odd kind ≡ true → is_odd_word which ≡ false → is_word which kind ≡ false
 odd_word which kind is plain = odd_word_by which kind (is_word which kind) refl is plain
 
-pub odd_sep : (line : Line) (kind : TokenKind) → is_odd kind ≡ true → is_sep line kind ≡ false
+pub odd_sep : (line : InLine) (kind : TokenKind) → is_odd kind ≡ true → is_sep line kind ≡ false
 odd_sep line kind is = by_odd (is_sep line) false (λ n. refl) refl refl refl kind is
 
 -- ---- a word that this profile doesn't have
@@ -78,7 +78,7 @@ refused_word which kind is plain = refused_word_by which kind (is_word which kin
 pub refused_mark : (which : Mark) (kind : TokenKind) → is_refused_kind kind ≡ true → is_mark which kind ≡ false
 refused_mark which kind is = by_refused (is_mark which) false (λ word. refl) kind is
 
-pub refused_sep : (line : Line) (kind : TokenKind) → is_refused_kind kind ≡ true → is_sep line kind ≡ false
+pub refused_sep : (line : InLine) (kind : TokenKind) → is_refused_kind kind ≡ true → is_sep line kind ≡ false
 refused_sep line kind is = by_refused (is_sep line) false (λ word. refl) kind is
 
 refused_word_lead : (word : Word) → is_refused word ≡ true → word_lead word ≡ leads.Nothing
@@ -176,7 +176,7 @@ pub record Odd (L : FaultKind → Type 0) (t : Token) (v : List Token) : Type 0 
 abbrev pub Stand : (FaultKind → Type 0) → Token → List Token → Type 0
 Stand L t v = (first v ≡ Some t) ⊎ Odd L t v
 
-abbrev pub place_in : (L : FaultKind → Type 0) (t : Token) (v : List Token) → Stand L t v → Place L t v
+abbrev pub place_in : (L : FaultKind → Type 0) (t : Token) (v : List Token) → Stand L t v → Position L t v
 place_in L t v (inl same) = inl same
 place_in L t v (inr odd) = inr odd.gap
 
@@ -200,7 +200,7 @@ other_word which plain odd = other_word_by which plain odd.u odd.why
 odd_weak : (u : Token) → is_odd u.kind ≡ true → Weak (Some u)
 odd_weak u is = record {
   mark = λ which. odd_mark which u.kind is;
-  named = λ ts. by_odd (λ (k : TokenKind). name_by u.at k ts) (Err (stops.Fault Expected, ts)) (λ n. refl) refl refl refl u.kind is;
+  named = λ ts. by_odd (λ (k : TokenKind). name_by u.at k ts) (Err (read_errs.Fault Expected, ts)) (λ n. refl) refl refl refl u.kind is;
   suffix = by_odd suffix_of None (λ n. refl) refl refl refl u.kind is;
   operator = λ least. by_odd (λ (k : TokenKind). at_level least u.at (binary_of k)) None (λ n. refl) refl refl refl u.kind is;
   pointer = by_odd is_pointer false (λ n. refl) refl refl refl u.kind is;
@@ -215,7 +215,7 @@ odd_stand L t u more deep out word odd =
 end_weak : (u : Token) → is_end u.kind ≡ true → Weak (Some u)
 end_weak u is = record {
   mark = λ which. by_end (is_mark which) false refl refl u.kind is;
-  named = λ ts. by_end (λ (k : TokenKind). name_by u.at k ts) (Err (stops.Fault Expected, ts)) refl refl u.kind is;
+  named = λ ts. by_end (λ (k : TokenKind). name_by u.at k ts) (Err (read_errs.Fault Expected, ts)) refl refl u.kind is;
   suffix = by_end suffix_of None refl refl u.kind is;
   operator = λ least. by_end (λ (k : TokenKind). at_level least u.at (binary_of k)) None refl refl u.kind is;
   pointer = by_end is_pointer false refl refl u.kind is;

@@ -7,8 +7,8 @@ use Rattle.fb_base.specs.declared.fault.FaultKind.TheVariants.{Expected, ExtraTe
 use Rattle.fb_lexer.specs.TokenList.{TokenList}
 use Rattle.fb_lexer.specs.declared.token.Token.{Token}
 use Rattle.fb_ast.specs.declared.tree.Tree.{Tree}
-use Rattle.parse_expr.specs.declared.stop.Stop.TheVariants as stops
-use Rattle.parse_expr.specs.declared.stop.ParseErr.TheVariants as errors
+use Rattle.parse_expr.specs.declared.error.ReadErr.TheVariants as read_errs
+use Rattle.parse_expr.specs.declared.error.ParseErr.TheVariants as errors
 use Rattle.parse_expr.specs.Reading.{Outcome}
 use Rattle.parse_expr.specs.Expr.{fault_place}
 use Rattle.parse_expr.proofs.Firsts.{further}
@@ -99,8 +99,8 @@ told_by : (tokens : TokenList) (fault : Fault) → FirstAt tokens.items fault �
 told_by tokens fault f (Ok p) is ends =
     let read : tree_of tokens ≡ told tokens (Ok p) = ap (told tokens) is in
     absurd (no_text_by tokens fault f (record { items = p.0.items; tokens = p.0.tokens; last_line = tokens.last_line }) (text_read tokens (record { items = p.0.items; tokens = p.0.tokens; last_line = tokens.last_line }) read) f.rest refl)
-told_by tokens fault f (Err (stops.NoMemory, rest)) is ends = absurd ends
-told_by tokens fault f (Err (stops.Fault kind, rest)) is ends =
+told_by tokens fault f (Err (read_errs.NoMemory, rest)) is ends = absurd ends
+told_by tokens fault f (Err (read_errs.Fault kind, rest)) is ends =
     let other : Fault = record { kind = kind; at = fault_place tokens.items rest } in
     let read : tree_of tokens ≡ Err (errors.Fault other) = ap (told tokens) is in
     read ∙ ap (λ (x : Fault). Err (errors.Fault x)) (one_fault tokens.items other fault (found_first tokens other read) f)

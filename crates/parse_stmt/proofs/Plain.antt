@@ -16,7 +16,7 @@ use Rattle.fb_ast.specs.declared.stmt.Stmt.{Stmt}
 use Rattle.fb_ast.specs.declared.stmt.Stmt.TheVariants as s
 use Rattle.parse_expr.specs.Words.{suffix_of}
 use Rattle.parse_expr.specs.Reading.{first, next, same_mark, is_mark, holds, sees, Reader, Outcome, and_then, pure, take_token}
-use Rattle.parse_expr.specs.Rows.{gives as gives_row}
+use Rattle.parse_expr.specs.Productions.{gives as gives_series}
 use Rattle.parse_expr.specs.Expr.{Measured, suffix_at, expr, level, operand, primary, climb}
 use Rattle.parse_expr.specs.Grammar.{primary as a_primary, nothing as nothing_behind}
 use Rattle.parse_expr.proofs.Sound.{Done, bind, by_test, map_done}
@@ -90,7 +90,7 @@ place_of_name deep ts n rest t = (
   1,
   t.is,
   omega arith,
-  rw (t.named) (a_primary t.token (gives_row (e.Name t.token.at t.text)) [] 14 1 (e.Name t.token.at t.text) (rw (t.kind) refl) (rw (t.kind) refl) (omega arith) (nothing_behind 0 (e.Name t.token.at t.text))),
+  rw (t.named) (a_primary t.token (gives_series (e.Name t.token.at t.text)) [] 14 1 (e.Name t.token.at t.text) (rw (t.kind) refl) (rw (t.kind) refl) (omega arith) (nothing_behind 0 (e.Name t.token.at t.text))),
   rw (t.is, t.kind) refl,
   rw (t.is, t.kind) refl,
 )

@@ -12,13 +12,13 @@ use Rattle.fb_ast.specs.declared.operator.CallWord.{CallWord}
 use Rattle.fb_ast.specs.declared.part.Name.{Name}
 use Rattle.fb_ast.specs.declared.stmt.Stmt.{Stmt}
 use Rattle.fb_ast.specs.declared.stmt.Stmt.TheVariants as k
-use Rattle.parse_expr.specs.declared.stop.Stop.TheVariants as stops
+use Rattle.parse_expr.specs.declared.error.ReadErr.TheVariants as read_errs
 use Rattle.parse_expr.specs.Reading.{first, next, sees, refusal, Reader, Outcome, and_then, pure, stop}
 use Rattle.parse_expr.specs.Expr.{Measured, expr}
 use Rattle.parse_expr.proofs.Sound.{Done, by_test}
 use Rattle.parse_expr.proofs.Refused.{refusals}
 use Rattle.parse_expr.proofs.Fills.{Failed, FaultOf, Next, failed_then, failed_pure, map_failed}
-use Rattle.parse_expr.proofs.Rowed.{Whole, NoRoom}
+use Rattle.parse_expr.proofs.Completed.{Whole, NoRoom}
 use Rattle.parse_expr.proofs.Begun.{begun}
 use Rattle.parse_parts.specs.Steps.{sees_value, no_value, pass_by, repeat, comma_behind}
 use Rattle.parse_parts.specs.Steps as steps
@@ -32,8 +32,8 @@ Plainly kind rest = kind ≡ ExtraText → ⊥
 
 pub both_by : {A : Type 0} (F G : FaultKind → List Token → Type 0) (o : Outcome A) → Failed F o → Failed G o → Failed (λ kind rest. F kind rest × G kind rest) o
 both_by F G (Ok p) f g = tt
-both_by F G (Err (stops.NoMemory, rest)) f g = f
-both_by F G (Err (stops.Fault kind, rest)) f g = (f, g)
+both_by F G (Err (read_errs.NoMemory, rest)) f g = f
+both_by F G (Err (read_errs.Fault kind, rest)) f g = (f, g)
 
 whatever_read : {A : Type 0} (o : Outcome A) → Done (λ (a : A) rest. Unit {0}) o
 whatever_read (Ok p) = tt

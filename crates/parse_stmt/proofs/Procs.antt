@@ -16,7 +16,7 @@ use Rattle.parse_expr.specs.Reading.{first, next, sees, sees_word, Reader, Outco
 use Rattle.parse_expr.proofs.Sound.{Done, bind, map_done}
 use Rattle.parse_expr.proofs.Ends.{Suffixes}
 use Rattle.parse_parts.specs.declared.kinds.Level.TheVariants as levels
-use Rattle.parse_parts.specs.declared.kinds.Line.TheVariants as lines
+use Rattle.parse_parts.specs.declared.kinds.InLine.TheVariants as lines
 use Rattle.parse_parts.specs.declared.kinds.Closer.{Closer}
 use Rattle.parse_parts.specs.declared.kinds.Closer.TheVariants as closers
 use Rattle.parse_parts.specs.declared.kinds.ProcedureWord.{ProcedureWord}

@@ -5,7 +5,7 @@ use Rattle.fb_base.specs.declared.fault.FaultKind.TheVariants.{DeepNesting, Expe
 use Rattle.fb_lexer.specs.declared.token.Token.{Token}
 use Rattle.fb_ast.specs.declared.part.Item.{Item}
 use Rattle.fb_ast.specs.declared.tree.Tree.{Tree}
-use Rattle.parse_expr.specs.declared.stop.Stop.TheVariants as stops
+use Rattle.parse_expr.specs.declared.error.ReadErr.TheVariants as read_errs
 use Rattle.parse_expr.specs.Faults.{is_refused_kind}
 use Rattle.parse_expr.specs.Reading.{Outcome}
 use Rattle.parse_expr.proofs.Fills.{Failed}
@@ -78,7 +78,7 @@ module _ (front s : List Token) (t : Token) where
   reason kind n f = absurd n.starts
 
   -- A token at which a fault stands is wrong in the way that the fault's kind says.
-  pub kinds_stand : (kind : FaultKind) → module_ 200 199 (front ++ t ∷ s) ≡ Err (stops.Fault kind, t ∷ s) → Tells front t kind
+  pub kinds_stand : (kind : FaultKind) → module_ 200 199 (front ++ t ∷ s) ≡ Err (read_errs.Fault kind, t ∷ s) → Tells front t kind
   kinds_stand kind is =
       reason kind (subst (λ (o : Outcome Found). Failed (TextBegun near 199 199 whole) o) is (module_fails near 199 199 whole))
       (subst (λ (o : Outcome Found). Failed (TextBegun far 199 199 whole) o) is (module_fails far 199 199 whole))
@@ -86,7 +86,7 @@ module _ (front s : List Token) (t : Token) where
   -- ---- the first kind that has a reason
 
   abbrev Fault : FaultKind → Type 0
-  Fault kind = module_ 200 199 (front ++ t ∷ s) ≡ Err (stops.Fault kind, t ∷ s)
+  Fault kind = module_ 200 199 (front ++ t ∷ s) ≡ Err (read_errs.Fault kind, t ∷ s)
 
   -- where not only the depth is wrong
   no_depth : (kind : FaultKind) → Fault kind → (kind ≡ DeepNesting → ⊥) → BeginsAtAnyDepth (front ++ t ∷ []) → ⊥

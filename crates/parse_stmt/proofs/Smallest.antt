@@ -24,7 +24,7 @@ use Rattle.parse_expr.proofs.Levels as levels
 use Rattle.parse_expr.proofs.Levels.{none_comes}
 use Rattle.parse_expr.proofs.Turned.{climb_none}
 use Rattle.parse_expr.proofs.Complete.{complete, type_is}
-use Rattle.parse_parts.specs.declared.kinds.Line.{Line}
+use Rattle.parse_parts.specs.declared.kinds.InLine.{InLine}
 use Rattle.parse_parts.specs.Steps.{place_at, sees_sep, extra, whole}
 use Rattle.parse_parts.specs.Steps as reading
 use Rattle.parse_stmt.specs.Phrases as grammar
@@ -41,7 +41,7 @@ pub exact_word : (which : Word) → Exact (expect_word which) (word which) alway
 unfolding expect_word
 exact_word which = exact_taken (sees_word which) _ (λ ts. tt)
 
-pub exact_sep : (line : Line) → Exact (reading.sep line) (grammar.sep line) always
+pub exact_sep : (line : InLine) → Exact (reading.sep line) (grammar.sep line) always
 unfolding reading.sep
 exact_sep line = exact_taken (sees_sep line) _ (λ ts. tt)
 

@@ -14,7 +14,7 @@ use Rattle.fb_ast.specs.declared.stmt.Stmt.TheVariants as s
 use Rattle.parse_expr.specs.Reading.{first, next, is_word, sees_word, Reader, Outcome}
 use Rattle.parse_expr.proofs.Sound.{Done, map_done}
 use Rattle.parse_parts.specs.declared.kinds.Level.{Level}
-use Rattle.parse_parts.specs.declared.kinds.Line.{Line}
+use Rattle.parse_parts.specs.declared.kinds.InLine.{InLine}
 use Rattle.parse_parts.specs.declared.kinds.Spot.{Spot}
 use Rattle.parse_parts.specs.declared.kinds.Lead.{Lead}
 use Rattle.parse_parts.specs.declared.kinds.Lead.TheVariants as leads
@@ -35,8 +35,8 @@ use Rattle.parse_stmt.proofs.Printing.{exact_print}
 use Rattle.parse_stmt.proofs.Bodies.{Inside, Opens}
 use Rattle.parse_stmt.proofs.Nested.{exact_if, exact_for, exact_while, exact_do, exact_select, exact_scope}
 
-module _ (deep : ℕ) (inner : Spot → Reader Stmt) (room : ℕ) (Inner : Level → Line → Phrase Stmt) (inside : Inside inner room Inner) where
-  exact_led : (at : Span) (level : Level) (line : Line) (other : FaultKind) (lead : Lead)
+module _ (deep : ℕ) (inner : Spot → Reader Stmt) (room : ℕ) (Inner : Level → InLine → Phrase Stmt) (inside : Inside inner room Inner) where
+  exact_led : (at : Span) (level : Level) (line : InLine) (other : FaultKind) (lead : Lead)
       → Exact (reading.led (suc deep) inner room at (record { level = level; line = line; other = other }) lead) (grammar.led (suc deep) Inner at level line lead) closes
   exact_led at level line other leads.Dim = dim_exact deep at level
   exact_led at level line other leads.Static = static_exact deep at
@@ -59,21 +59,21 @@ module _ (deep : ℕ) (inner : Spot → Reader Stmt) (room : ℕ) (Inner : Level
   exact_led at level line other leads.Value = exact_valued deep at
   exact_led at level line other leads.Nothing = record { sound = λ ts. tt; finds = λ ts x rest t f. absurd t; within = λ ts x rest t. absurd t }
 
-  statement_sound : (level : Level) (line : Line) (other : FaultKind) (ts : List Token) → Done (grammar.statement (suc deep) Inner level line ts) (reading.statement (suc deep) inner room (record { level = level; line = line; other = other }) ts)
+  statement_sound : (level : Level) (line : InLine) (other : FaultKind) (ts : List Token) → Done (grammar.statement (suc deep) Inner level line ts) (reading.statement (suc deep) inner room (record { level = level; line = line; other = other }) ts)
   unfolding reading.statement first
   statement_sound level line other [] = tt
   statement_sound level line other (t ∷ ts) =
       map_done (grammar.led (suc deep) Inner t.at level line (lead_of level t.kind) (t ∷ ts)) (grammar.statement (suc deep) Inner level line (t ∷ ts)) _ ((exact_led t.at level line other (lead_of level t.kind)).sound (t ∷ ts))
       (λ x rest l. (t, ts, refl, l))
 
-  statement_finds : (level : Level) (line : Line) (other : FaultKind) (ts : List Token) (x : Stmt) (rest : List Token) → grammar.statement (suc deep) Inner level line ts x rest → closes (next_kind rest) ≡ true
+  statement_finds : (level : Level) (line : InLine) (other : FaultKind) (ts : List Token) (x : Stmt) (rest : List Token) → grammar.statement (suc deep) Inner level line ts x rest → closes (next_kind rest) ≡ true
       → reading.statement (suc deep) inner room (record { level = level; line = line; other = other }) ts ≡ Ok (x, rest)
   unfolding reading.statement first
   statement_finds level line other ts x rest l f =
       ap (λ (m : List Token). reading.statement_at (suc deep) inner room (record { level = level; line = line; other = other }) (first m) m) l.2
       ∙ (exact_led l.0.at level line other (lead_of level l.0.kind)).finds (l.0 ∷ l.1) x rest (subst (λ (m : List Token). grammar.led (suc deep) Inner l.0.at level line (lead_of level l.0.kind) m x rest) l.2 l.3) f
 
-  pub exact_statement : (level : Level) (line : Line) (other : FaultKind) → Exact (reading.statement (suc deep) inner room (record { level = level; line = line; other = other })) (grammar.statement (suc deep) Inner level line) closes
+  pub exact_statement : (level : Level) (line : InLine) (other : FaultKind) → Exact (reading.statement (suc deep) inner room (record { level = level; line = line; other = other })) (grammar.statement (suc deep) Inner level line) closes
   exact_statement level line other = record {
     sound = statement_sound level line other;
     finds = statement_finds level line other;
@@ -82,18 +82,18 @@ module _ (deep : ℕ) (inner : Spot → Reader Stmt) (room : ℕ) (Inner : Level
 
   -- ---- what a statement doesn't begin with
 
-  sep_apart : (at : Span) (level : Level) (line : Line) (kind : TokenKind) (ts : List Token) (x : Stmt) (rest : List Token) → grammar.led (suc deep) Inner at level line (lead_of level kind) ts x rest → (other : Line) → is_sep other kind ≡ false
+  sep_apart : (at : Span) (level : Level) (line : InLine) (kind : TokenKind) (ts : List Token) (x : Stmt) (rest : List Token) → grammar.led (suc deep) Inner at level line (lead_of level kind) ts x rest → (other : InLine) → is_sep other kind ≡ false
   sep_apart at level line kinds.Colon ts x rest l other = absurd l
   sep_apart at level line kinds.LineEnd ts x rest l other = absurd l
   sep_apart at level line kind ts x rest l other = refl
 
-  word_by : (which : Word) (at : Span) (level : Level) (line : Line) (kind : TokenKind) (ts : List Token) (x : Stmt) (rest : List Token) → lead_of level (kinds.Word which) ≡ leads.Nothing
+  word_by : (which : Word) (at : Span) (level : Level) (line : InLine) (kind : TokenKind) (ts : List Token) (x : Stmt) (rest : List Token) → lead_of level (kinds.Word which) ≡ leads.Nothing
       → grammar.led (suc deep) Inner at level line (lead_of level kind) ts x rest → (b : Bool) → is_word which kind ≡ b → b ≡ false
   word_by which at level line kind ts x rest none l true is =
       absurd (subst (λ (lead : Lead). grammar.led (suc deep) Inner at level line lead ts x rest) (ap (lead_of level) (word_is which kind is) ∙ none) l)
   word_by which at level line kind ts x rest none l false is = refl
 
-  pub word_apart : (which : Word) (level : Level) (line : Line) (ts : List Token) (x : Stmt) (rest : List Token) → lead_of level (kinds.Word which) ≡ leads.Nothing
+  pub word_apart : (which : Word) (level : Level) (line : InLine) (ts : List Token) (x : Stmt) (rest : List Token) → lead_of level (kinds.Word which) ≡ leads.Nothing
       → grammar.statement (suc deep) Inner level line ts x rest → sees_word which ts ≡ false
   unfolding sees_word first
   word_apart which level line ts x rest none l =
@@ -117,7 +117,7 @@ module _ (deep : ℕ) (inner : Spot → Reader Stmt) (room : ℕ) (Inner : Level
   behind_end which a b ts y rest (inr t) f = closed_no_word which b ts (ap (λ (r : List Token). closes (next_kind r)) (sym t.1) ∙ f) (sees_word which ts) refl
 
   end_by : (which : Word) → begins_kind (kinds.Word which) ≡ false → closes (Some (kinds.Word which)) ≡ false
-      → (at : Span) (level : Level) (line : Line) (kind : TokenKind) (ts : List Token) (x : Stmt) (rest : List Token) → grammar.led (suc deep) Inner at level line (lead_of level kind) ts x rest → closes (next_kind rest) ≡ true
+      → (at : Span) (level : Level) (line : InLine) (kind : TokenKind) (ts : List Token) (x : Stmt) (rest : List Token) → grammar.led (suc deep) Inner at level line (lead_of level kind) ts x rest → closes (next_kind rest) ≡ true
       → (b : Bool) → is_word w.KwEnd kind ≡ b → (if b then sees_word which (next ts) else false) ≡ false
   end_by which a b at level line kind ts x rest l f true is =
       let t : Then any_token (λ u. Then (maybe (expression (suc deep))) (λ y. gives (s.End at y))) ts x rest =
@@ -127,13 +127,13 @@ module _ (deep : ℕ) (inner : Spot → Reader Stmt) (room : ℕ) (Inner : Level
   end_by which a b at level line kind ts x rest l f false is = refl
 
   end_apart : (which : Word) → begins_kind (kinds.Word which) ≡ false → closes (Some (kinds.Word which)) ≡ false
-      → (level : Level) (line : Line) (ts : List Token) (x : Stmt) (rest : List Token) → grammar.statement (suc deep) Inner level line ts x rest → closes (next_kind rest) ≡ true → sees_end which ts ≡ false
+      → (level : Level) (line : InLine) (ts : List Token) (x : Stmt) (rest : List Token) → grammar.statement (suc deep) Inner level line ts x rest → closes (next_kind rest) ≡ true → sees_end which ts ≡ false
   unfolding sees_end sees_word first
   end_apart which a b level line ts x rest l f =
       ap (λ (m : List Token). if sees_word w.KwEnd m then sees_word which (next ts) else false) l.2
       ∙ end_by which a b l.0.at level line l.0.kind ts x rest l.3 f (is_word w.KwEnd l.0.kind) refl
 
-  apart : (level : Level) (line : Line) (ts : List Token) (x : Stmt) (rest : List Token) → grammar.statement (suc deep) Inner level line ts x rest → closes (next_kind rest) ≡ true → (closer : Closer) → closed closer ts ≡ false
+  apart : (level : Level) (line : InLine) (ts : List Token) (x : Stmt) (rest : List Token) → grammar.statement (suc deep) Inner level line ts x rest → closes (next_kind rest) ≡ true → (closer : Closer) → closed closer ts ≡ false
   apart level line ts x rest l f closers.Next = word_apart w.KwNext level line ts x rest refl l
   apart level line ts x rest l f closers.Wend = word_apart w.KwWend level line ts x rest refl l
   apart level line ts x rest l f closers.Loop = word_apart w.KwLoop level line ts x rest refl l
@@ -148,7 +148,7 @@ module _ (deep : ℕ) (inner : Spot → Reader Stmt) (room : ℕ) (Inner : Level
   apart level line ts x rest l f closers.Destructor = end_apart w.KwDestructor refl refl level line ts x rest l f
   apart level line ts x rest l f closers.Operator = end_apart w.KwOperator refl refl level line ts x rest l f
 
-  pub statement_opens : (level : Level) (line : Line) (ts : List Token) (x : Stmt) (rest : List Token) → grammar.statement (suc deep) Inner level line ts x rest → closes (next_kind rest) ≡ true → Opens ts
+  pub statement_opens : (level : Level) (line : InLine) (ts : List Token) (x : Stmt) (rest : List Token) → grammar.statement (suc deep) Inner level line ts x rest → closes (next_kind rest) ≡ true → Opens ts
   unfolding sees_sep first
   statement_opens level line ts x rest l f = record {
     no_sep = λ other. ap (sees_sep other) l.2 ∙ sep_apart l.0.at level line l.0.kind ts x rest l.3 other;

@@ -13,7 +13,7 @@ use Rattle.fb_ast.specs.declared.part.Item.TheVariants as item
 use Rattle.parse_expr.specs.Reading.{next, sees_word, expect_word, refuse, Reader, Outcome, and_then, pure}
 use Rattle.parse_expr.proofs.Sound.{Done, bind, by_test, map_done}
 use Rattle.parse_expr.proofs.Ends.{Suffixes, no_longer}
-use Rattle.parse_parts.specs.declared.kinds.Line.TheVariants as lines
+use Rattle.parse_parts.specs.declared.kinds.InLine.TheVariants as lines
 use Rattle.parse_parts.specs.Steps.{place_at, sees_sep, sees_name, repeat, all_of}
 use Rattle.parse_parts.specs.Steps as steps
 use Rattle.parse_parts.specs.Members.{one_member, ended_member, has_field, member_turn, members}

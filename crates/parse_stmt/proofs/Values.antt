@@ -16,9 +16,9 @@ use Rattle.parse_expr.specs.declared.kinds.OperandWord.{OperandWord}
 use Rattle.parse_expr.specs.declared.kinds.OperandWord.TheVariants as operands
 use Rattle.parse_expr.specs.Words.{prefix_of, operand_word}
 use Rattle.parse_expr.specs.Reading.{first, Outcome, and_then, pure, refusal, refusal_by}
-use Rattle.parse_expr.specs.Rows.{Row, start_of, word_start, mark_start, begins_some, begins_operand}
+use Rattle.parse_expr.specs.Productions.{Production, start_of, word_start, mark_start, begins_some, begins_operand}
 use Rattle.parse_expr.specs.Expr.{begins, begins_as}
-use Rattle.parse_expr.specs.Grammar.{row_of, Is, Expression, primary, suffix, prefix, binary}
+use Rattle.parse_expr.specs.Grammar.{production_of, Is, Expression, primary, suffix, prefix, binary}
 use Rattle.parse_expr.proofs.Sound.{Done}
 use Rattle.parse_parts.specs.Words.{assignment_of}
 use Rattle.parse_parts.specs.Steps.{sees_value, no_value, pass_by, any_value}
@@ -37,22 +37,22 @@ le_is a b is = grind (arith, nat_tests)
 pub is_le : (a b : ℕ) → nat_le a b ≡ true → a ≤ b
 is_le a b is = grind (arith, nat_tests)
 
-word_some : (at origin : Span) (o : OperandWord) (row : Row) → row_of (word_start at o) ≡ Some row → begins_some (word_start origin o) ≡ true
-word_some at origin operands.Nothing row is = cc
-word_some at origin o row is = refl
+word_some : (at origin : Span) (o : OperandWord) (production : Production) → production_of (word_start at o) ≡ Some production → begins_some (word_start origin o) ≡ true
+word_some at origin operands.Nothing production is = cc
+word_some at origin o production is = refl
 
-mark_some : (at origin : Span) (which : Mark) (row : Row) → row_of (mark_start at which) ≡ Some row → begins_some (mark_start origin which) ≡ true
-mark_some at origin marks.Open row is = refl
-mark_some at origin which row is = cc
+mark_some : (at origin : Span) (which : Mark) (production : Production) → production_of (mark_start at which) ≡ Some production → begins_some (mark_start origin which) ≡ true
+mark_some at origin marks.Open production is = refl
+mark_some at origin which production is = cc
 
-start_some : (at origin : Span) (kind : TokenKind) (row : Row) → row_of (start_of at kind) ≡ Some row → begins_some (start_of origin kind) ≡ true
-start_some at origin (kinds.Number value) row is = refl
-start_some at origin (kinds.Str text) row is = refl
-start_some at origin (kinds.Name text) row is = refl
-start_some at origin (kinds.Mark which) row is = mark_some at origin which row is
-start_some at origin (kinds.Word word) row is = word_some at origin (operand_word word) row is
-start_some at origin kinds.Colon row is = cc
-start_some at origin kinds.LineEnd row is = cc
+start_some : (at origin : Span) (kind : TokenKind) (production : Production) → production_of (start_of at kind) ≡ Some production → begins_some (start_of origin kind) ≡ true
+start_some at origin (kinds.Number value) production is = refl
+start_some at origin (kinds.Str text) production is = refl
+start_some at origin (kinds.Name text) production is = refl
+start_some at origin (kinds.Mark which) production is = mark_some at origin which production is
+start_some at origin (kinds.Word word) production is = word_some at origin (operand_word word) production is
+start_some at origin kinds.Colon production is = cc
+start_some at origin kinds.LineEnd production is = cc
 
 pub record Begun (level : ℕ) (front : List Token) : Type 0 where
   pub token : Token
@@ -65,8 +65,8 @@ lower_as level m t None low is = is
 lower_as level m t (Some p) low is = let e = is_le m p.1 is in le_is level p.1 (omega arith)
 
 pub begun : {level depth : ℕ} {tree : Expr} {front : List Token} → Is (Expression level depth tree) front → Begun level front
-begun (primary t row ts level depth tree none begins low r) =
-    record { token = t; more = ts; is = refl; may = rw none (start_some t.at (record { line = 1; col = 1 }) t.kind row begins) }
+begun (primary t production ts level depth tree none begins low r) =
+    record { token = t; more = ts; is = refl; may = rw none (start_some t.at (record { line = 1; col = 1 }) t.kind production begins) }
 begun (suffix front t back kind left d level depth tree a b low l r) =
     let f = begun l in record { token = f.token; more = f.more ++ t ∷ back; is = ap (λ xs. xs ++ t ∷ back) f.is; may = lower_as level 15 f.token (prefix_of f.token.kind) low f.may }
 begun (prefix t ts operator k d level operand a low r) =

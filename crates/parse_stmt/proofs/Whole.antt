@@ -14,12 +14,12 @@ use Rattle.fb_ast.specs.declared.part.ProcedureKind.{ProcedureKind}
 use Rattle.fb_ast.specs.declared.stmt.Block.{Block}
 use Rattle.fb_ast.specs.declared.stmt.Stmt.{Stmt}
 use Rattle.fb_ast.specs.declared.tree.Tree.{Tree}
-use Rattle.parse_expr.specs.declared.stop.ParseErr.{ParseErr}
+use Rattle.parse_expr.specs.declared.error.ParseErr.{ParseErr}
 use Rattle.parse_expr.specs.Reading.{first, next, is_word, sees, sees_word, Reader, Outcome, and_then, pure}
 use Rattle.parse_expr.proofs.Sound.{Done, bind, by_test, map_done}
 use Rattle.parse_expr.proofs.Ends.{Suffixes, no_longer}
 use Rattle.parse_parts.specs.declared.kinds.Level.TheVariants as levels
-use Rattle.parse_parts.specs.declared.kinds.Line.TheVariants as lines
+use Rattle.parse_parts.specs.declared.kinds.InLine.TheVariants as lines
 use Rattle.parse_parts.specs.declared.kinds.Spot.{Spot}
 use Rattle.parse_parts.specs.declared.kinds.Lead.{Lead}
 use Rattle.parse_parts.specs.declared.kinds.Lead.TheVariants as leads

@@ -15,8 +15,8 @@ use Rattle.parse_expr.specs.Reading.{Outcome}
 use Rattle.parse_expr.proofs.Sound.{Done, map_done}
 use Rattle.parse_parts.specs.declared.kinds.Level.{Level}
 use Rattle.parse_parts.specs.declared.kinds.Level.TheVariants as levels
-use Rattle.parse_parts.specs.declared.kinds.Line.{Line}
-use Rattle.parse_parts.specs.declared.kinds.Line.TheVariants as lines
+use Rattle.parse_parts.specs.declared.kinds.InLine.{InLine}
+use Rattle.parse_parts.specs.declared.kinds.InLine.TheVariants as lines
 use Rattle.parse_parts.specs.declared.kinds.Lead.{Lead}
 use Rattle.parse_parts.specs.declared.kinds.Lead.TheVariants as leads
 use Rattle.parse_parts.specs.declared.kinds.Closer.{Closer}
@@ -24,7 +24,7 @@ use Rattle.parse_parts.specs.Heads.{Opening}
 use Rattle.parse_parts.specs.Words.{level_within, line_within, lead_of}
 use Rattle.parse_parts.specs.Variables.{may_share}
 use Rattle.parse_stmt.specs.Phrases.{Phrase, Then, either, maybe, behind_mark, behind_word, Listed, last, another, sep, expression, place}
-use Rattle.parse_stmt.specs.Statements.{AllPrinted, nothing, semicolon, comma, value, Many, none, some, Statements, blank, Row}
+use Rattle.parse_stmt.specs.Statements.{AllPrinted, nothing, semicolon, comma, value, Many, none, some, Statements, blank, Series}
 use Rattle.parse_stmt.specs.Statements as g
 use Rattle.parse_stmt.specs.Texts.{Members}
 use Rattle.parse_stmt.specs.Texts as texts
@@ -143,81 +143,81 @@ module _ (most more : ℕ) (fits : most ≤ more) where
 
   -- ---- statements with statements inside
 
-  module _ (one other : Level → Line → Phrase Stmt) (inside : (level : Level) (line : Line) → Wider (one level line) (other level line)) where
-    statements_to : (level : Level) (line : Line) (ts : List Token) (all : List Stmt) (rest : List Token) → Statements (one level line) line ts all rest → Statements (other level line) line ts all rest
+  module _ (one other : Level → InLine → Phrase Stmt) (inside : (level : Level) (line : InLine) → Wider (one level line) (other level line)) where
+    statements_to : (level : Level) (line : InLine) (ts : List Token) (all : List Stmt) (rest : List Token) → Statements (one level line) line ts all rest → Statements (other level line) line ts all rest
     statements_to level line ts all rest (none a) = none ts
     statements_to level line ts all rest (blank a b later is p) = blank ts rest later is (statements_to level line _ later rest p)
     statements_to level line ts all rest (some a between b x later p is q) = some ts between rest x later ((inside level line).to ts x between p) is (statements_to level line _ later rest q)
 
-    row_to : (level : Level) (ts : List Token) (all : List Stmt) (rest : List Token) → Row (one level lines.Row) ts all rest → Row (other level lines.Row) ts all rest
-    row_to level ts all rest (g.last a b x p is) = g.last ts rest x ((inside level lines.Row).to ts x rest p) is
-    row_to level ts all rest (g.another a between b x later p is q) = g.another ts between rest x later ((inside level lines.Row).to ts x between p) is (row_to level _ later rest q)
+    series_to : (level : Level) (ts : List Token) (all : List Stmt) (rest : List Token) → Series (one level lines.Series) ts all rest → Series (other level lines.Series) ts all rest
+    series_to level ts all rest (g.last a b x p is) = g.last ts rest x ((inside level lines.Series).to ts x rest p) is
+    series_to level ts all rest (g.another a between b x later p is q) = g.another ts between rest x later ((inside level lines.Series).to ts x between p) is (series_to level _ later rest q)
 
-    pub wide_row : (level : Level) → Wider (Row (one level lines.Row)) (Row (other level lines.Row))
-    wide_row level = record { to = row_to level }
+    pub wide_series : (level : Level) → Wider (Series (one level lines.Series)) (Series (other level lines.Series))
+    wide_series level = record { to = series_to level }
 
-    pub wide_body : (level : Level) (line : Line) → Wider (g.body most one level line) (g.body more other level line)
+    pub wide_body : (level : Level) (line : InLine) → Wider (g.body most one level line) (g.body more other level line)
     wide_body level line = wide_then (record { to = statements_to level line }) (λ all. wide_same)
 
-    pub wide_then_row : (level : Level) → Wider (g.then_row most one level) (g.then_row more other level)
-    wide_then_row level = record { to = λ ts b rest p. (p.0, row_to level ts p.0 rest p.1, p.2) }
+    pub wide_then_series : (level : Level) → Wider (g.then_series most one level) (g.then_series more other level)
+    wide_then_series level = record { to = λ ts b rest p. (p.0, series_to level ts p.0 rest p.1, p.2) }
 
-    wide_else_row : (level : Level) → Wider (g.else_row most one level) (g.else_row more other level)
-    wide_else_row level = record { to = λ ts b rest p. (p.0, row_to level ts p.0 rest p.1, p.2) }
+    wide_else_series : (level : Level) → Wider (g.else_series most one level) (g.else_series more other level)
+    wide_else_series level = record { to = λ ts b rest p. (p.0, series_to level ts p.0 rest p.1, p.2) }
 
-    wide_row_other : (level : Level) → Wider (g.row_other most one level) (g.row_other more other level)
-    wide_row_other level = wide_either (wide_then wide_same (λ at. wide_then wide_same (λ u. wide_then (wide_else_row level) (λ b. wide_same)))) wide_same
+    wide_series_other : (level : Level) → Wider (g.series_other most one level) (g.series_other more other level)
+    wide_series_other level = wide_either (wide_then wide_same (λ at. wide_then wide_same (λ u. wide_then (wide_else_series level) (λ b. wide_same)))) wide_same
 
-    wide_if_row : (at : Span) (condition : Expr) (level : Level) → Wider (g.if_row most one at condition level) (g.if_row more other at condition level)
-    wide_if_row at condition level = wide_then (wide_then_row level) (λ b. wide_then (wide_row_other level) (λ o. wide_same))
+    wide_if_series : (at : Span) (condition : Expr) (level : Level) → Wider (g.if_series most one at condition level) (g.if_series more other at condition level)
+    wide_if_series at condition level = wide_then (wide_then_series level) (λ b. wide_then (wide_series_other level) (λ o. wide_same))
 
-    pub wide_branch : (at : Span) (condition : Expr) (level : Level) (line : Line) → Wider (g.branch most one at condition level line) (g.branch more other at condition level line)
+    pub wide_branch : (at : Span) (condition : Expr) (level : Level) (line : InLine) → Wider (g.branch most one at condition level line) (g.branch more other at condition level line)
     wide_branch at condition level line = wide_then (wide_body level line) (λ b. wide_same)
 
-    pub wide_else_if : (level : Level) (line : Line) → Wider (g.else_if most one level line) (g.else_if more other level line)
+    pub wide_else_if : (level : Level) (line : InLine) → Wider (g.else_if most one level line) (g.else_if more other level line)
     wide_else_if level line = wide_then wide_same (λ at. wide_then wide_same (λ u. wide_then wide_expression (λ condition. wide_then wide_same (λ v. wide_then wide_same (λ x. wide_branch at condition level line)))))
 
-    pub wide_last_else : (level : Level) (line : Line) → Wider (g.last_else most one level line) (g.last_else more other level line)
+    pub wide_last_else : (level : Level) (line : InLine) → Wider (g.last_else most one level line) (g.last_else more other level line)
     wide_last_else level line = wide_either (wide_then wide_same (λ at. wide_then wide_same (λ u. wide_then (wide_then wide_same (λ v. wide_body level line)) (λ b. wide_same)))) wide_same
 
-    wide_if_block : (at : Span) (condition : Expr) (level : Level) (line : Line) → Wider (g.if_block most one at condition level line) (g.if_block more other at condition level line)
+    wide_if_block : (at : Span) (condition : Expr) (level : Level) (line : InLine) → Wider (g.if_block most one at condition level line) (g.if_block more other at condition level line)
     wide_if_block at condition level line = wide_then (wide_branch at condition level line) (λ b. wide_then (wide_many (wide_else_if level line)) (λ all. wide_then (wide_last_else level line) (λ o. wide_same)))
 
-    wide_if_line : (line : Line) (at : Span) (condition : Expr) (level : Level) → Wider (g.if_line most one line at condition level) (g.if_line more other line at condition level)
-    wide_if_line lines.Free at condition level = wide_if_row at condition level
-    wide_if_line lines.Row at condition level = wide_if_row at condition level
+    wide_if_line : (line : InLine) (at : Span) (condition : Expr) (level : Level) → Wider (g.if_line most one line at condition level) (g.if_line more other line at condition level)
+    wide_if_line lines.Free at condition level = wide_if_series at condition level
+    wide_if_line lines.Series at condition level = wide_if_series at condition level
     wide_if_line lines.Inner at condition level = wide_same
 
-    pub wide_if_behind : (at : Span) (condition : Expr) (level : Level) (line : Line)
+    pub wide_if_behind : (at : Span) (condition : Expr) (level : Level) (line : InLine)
         → Wider (either (Then (sep line) (λ (u : Unit {0}). g.if_block most one at condition (level_within level) (line_within line))) (g.if_line most one line at condition (level_within level)))
         (either (Then (sep line) (λ (u : Unit {0}). g.if_block more other at condition (level_within level) (line_within line))) (g.if_line more other line at condition (level_within level)))
     wide_if_behind at condition level line = wide_either (wide_then wide_same (λ u. wide_if_block at condition (level_within level) (line_within line))) (wide_if_line line at condition (level_within level))
 
-    wide_if : (at : Span) (level : Level) (line : Line) → Wider (g.if_ most one at level line) (g.if_ more other at level line)
+    wide_if : (at : Span) (level : Level) (line : InLine) → Wider (g.if_ most one at level line) (g.if_ more other at level line)
     wide_if at level line = wide_then wide_same (λ u. wide_then wide_expression (λ condition. wide_then wide_same (λ v. wide_if_behind at condition level line)))
 
-    wide_for_tail : (level : Level) (line : Line) → Wider (g.for_tail most one level line) (g.for_tail more other level line)
+    wide_for_tail : (level : Level) (line : InLine) → Wider (g.for_tail most one level line) (g.for_tail more other level line)
     wide_for_tail level line = wide_then wide_same (λ u. wide_then (wide_body level line) (λ b. wide_same))
 
-    wide_for : (at : Span) (level : Level) (line : Line) → Wider (g.for_ most one at level line) (g.for_ more other at level line)
+    wide_for : (at : Span) (level : Level) (line : InLine) → Wider (g.for_ most one at level line) (g.for_ more other at level line)
     wide_for at level line = wide_then wide_same (λ u. wide_then wide_for_head (λ head. wide_then (wide_for_tail level line) (λ tail. wide_same)))
 
-    wide_while : (at : Span) (level : Level) (line : Line) → Wider (g.while_ most one at level line) (g.while_ more other at level line)
+    wide_while : (at : Span) (level : Level) (line : InLine) → Wider (g.while_ most one at level line) (g.while_ more other at level line)
     wide_while at level line = wide_then wide_same (λ u. wide_then wide_expression (λ condition. wide_then wide_same (λ v. wide_then (wide_body level line) (λ b. wide_same))))
 
-    wide_do : (at : Span) (level : Level) (line : Line) → Wider (g.do_ most one at level line) (g.do_ more other at level line)
+    wide_do : (at : Span) (level : Level) (line : InLine) → Wider (g.do_ most one at level line) (g.do_ more other at level line)
     wide_do at level line = wide_then wide_same (λ u. wide_then wide_any_test (λ test. wide_then wide_same (λ v. wide_then (wide_body level line) (λ b. wide_then wide_same (λ x. wide_then (wide_last_test test) (λ o. wide_same))))))
 
-    pub wide_case_branch : (level : Level) (line : Line) → Wider (g.case_branch most one level line) (g.case_branch more other level line)
+    pub wide_case_branch : (level : Level) (line : InLine) → Wider (g.case_branch most one level line) (g.case_branch more other level line)
     wide_case_branch level line = wide_then wide_same (λ at. wide_then wide_same (λ u. wide_then wide_cases (λ all. wide_then wide_same (λ v. wide_then (wide_body level line) (λ b. wide_same)))))
 
-    wide_select : (at : Span) (level : Level) (line : Line) → Wider (g.select most one at level line) (g.select more other at level line)
+    wide_select : (at : Span) (level : Level) (line : InLine) → Wider (g.select most one at level line) (g.select more other at level line)
     wide_select at level line = wide_then wide_same (λ u. wide_then wide_same (λ v. wide_then wide_expression (λ x. wide_then wide_same (λ y. wide_then (wide_many (wide_case_branch level line)) (λ all. wide_same)))))
 
-    wide_scope : (at : Span) (level : Level) (line : Line) → Wider (g.scope most one at level line) (g.scope more other at level line)
+    wide_scope : (at : Span) (level : Level) (line : InLine) → Wider (g.scope most one at level line) (g.scope more other at level line)
     wide_scope at level line = wide_then wide_same (λ u. wide_then wide_same (λ v. wide_then (wide_body level line) (λ b. wide_same)))
 
-    wide_led : (at : Span) (level : Level) (line : Line) (lead : Lead) → Wider (g.led most one at level line lead) (g.led more other at level line lead)
+    wide_led : (at : Span) (level : Level) (line : InLine) (lead : Lead) → Wider (g.led most one at level line lead) (g.led more other at level line lead)
     wide_led at level line leads.Dim = wide_then wide_same (λ u. wide_dim_with (may_share level) at)
     wide_led at level line leads.Static = wide_then wide_same (λ u. wide_variables at _)
     wide_led at level line leads.Const = wide_then wide_same (λ u. wide_constant at)
@@ -239,11 +239,11 @@ module _ (most more : ℕ) (fits : most ≤ more) where
     wide_led at level line leads.Value = wide_valued at
     wide_led at level line leads.Nothing = wide_same
 
-    pub wide_statement : (level : Level) (line : Line) → Wider (g.statement most one level line) (g.statement more other level line)
+    pub wide_statement : (level : Level) (line : InLine) → Wider (g.statement most one level line) (g.statement more other level line)
     wide_statement level line = record { to = λ ts x rest p. (p.0, p.1, p.2, (wide_led p.0.at level line (lead_of level p.0.kind)).to ts x rest p.3) }
 
   -- statements, some levels of them deeper
-  pub wide_stmt : (reach : Reach) (room : ℕ) (level : Level) (line : Line) → Wider (g.stmt most room level line) (g.stmt more (above reach room) level line)
+  pub wide_stmt : (reach : Reach) (room : ℕ) (level : Level) (line : InLine) → Wider (g.stmt most room level line) (g.stmt more (above reach room) level line)
   wide_stmt reach zero level line = record { to = λ ts x rest p. absurd p }
   wide_stmt reach (suc room) level line = wide_statement (g.stmt most room) (g.stmt more (above reach room)) (wide_stmt reach room) level line
 

@@ -15,12 +15,12 @@ use Rattle.fb_ast.specs.declared.stmt.Branch.{Branch, roll-Branch}
 use Rattle.fb_ast.specs.declared.stmt.CaseBranch.{CaseBranch, roll-CaseBranch}
 use Rattle.fb_ast.specs.declared.stmt.Stmt.{Stmt}
 use Rattle.fb_ast.specs.declared.stmt.Stmt.TheVariants as s
-use Rattle.parse_expr.specs.declared.stop.Stop.TheVariants.{Fault}
+use Rattle.parse_expr.specs.declared.error.ReadErr.TheVariants.{Fault}
 use Rattle.parse_expr.specs.Reading.{Reader, first, next, sees_word, expect, expect_word, pure, stop, ◌>>=◌, ◌>>◌, take_token}
 use Rattle.parse_expr.specs.Types.{name}
 use Rattle.parse_parts.specs.declared.kinds.Level.{Level}
-use Rattle.parse_parts.specs.declared.kinds.Line.{Line}
-use Rattle.parse_parts.specs.declared.kinds.Line.TheVariants as lines
+use Rattle.parse_parts.specs.declared.kinds.InLine.{InLine}
+use Rattle.parse_parts.specs.declared.kinds.InLine.TheVariants as lines
 use Rattle.parse_parts.specs.declared.kinds.Spot.{Spot}
 use Rattle.parse_parts.specs.declared.kinds.Lead.{Lead}
 use Rattle.parse_parts.specs.declared.kinds.Lead.TheVariants as leads
@@ -62,10 +62,10 @@ end_of word = do
 
 -- What is wrong behind an End that may not begin a statement, since no statement can be deep enough, but may end the
 -- block: only what would make it a statement is forbidden by the depth.
-unfoldable pub behind_end : Line → List Token → FaultKind
+unfoldable pub behind_end : InLine → List Token → FaultKind
 behind_end line ts = astray (if sees_value ts then DeepNesting else if sees_sep line ts then DeepNesting else Expected) ts
 
-unfoldable pub deep_end : Line → Reader Stmt
+unfoldable pub deep_end : InLine → Reader Stmt
 deep_end line = take_token >> (λ ts. Err (Fault (behind_end line ts), ts))
 
 -- ---- statements with statements inside, by the reader of those, which may be so many levels deep
@@ -75,25 +75,25 @@ module _ (most : ℕ) (inner : Spot → Reader Stmt) (room : ℕ) where
   unfoldable pub end_is_deep : Closer → List Token → Bool
   end_is_deep closer ts = if room == 0 then (if ends_with_end closer then sees_word w.KwEnd ts else false) else false
 
-  unfoldable pub block_stmt : Level → Line → Closer → Reader Stmt
+  unfoldable pub block_stmt : Level → InLine → Closer → Reader Stmt
   block_stmt level line closer = λ ts.
       if end_is_deep closer ts then deep_end line ts
       else inner (record { level = level; line = line; other = ExtraText }) ts
 
-  unfoldable pub ended : Line → List Stmt → Stmt → Reader (List Stmt × Bool)
+  unfoldable pub ended : InLine → List Stmt → Stmt → Reader (List Stmt × Bool)
   ended line found x = sep line >> pure (found ++ x ∷ [], true)
 
-  unfoldable pub block_turn : Level → Line → Closer → Turn (List Stmt)
+  unfoldable pub block_turn : Level → InLine → Closer → Turn (List Stmt)
   block_turn level line closer found = λ ts.
       if sees_sep line ts then Ok ((found, true), next ts)
       else if closed closer ts then Ok ((found, false), ts)
       else (block_stmt level line closer >>= ended line found) ts
 
-  unfoldable pub block : Level → Line → Closer → Reader (List Stmt)
+  unfoldable pub block : Level → InLine → Closer → Reader (List Stmt)
   block level line closer = all_of (block_turn level line closer) []
 
   -- a block, and the place of what ends it, which comes next
-  unfoldable pub body : Level → Line → Closer → Reader Block
+  unfoldable pub body : Level → InLine → Closer → Reader Block
   body level line closer = do
     all ← block level line closer
     end ← here
@@ -101,66 +101,66 @@ module _ (most : ℕ) (inner : Spot → Reader Stmt) (room : ℕ) where
 
   -- ---- the one-line If
 
-  unfoldable pub row_turn : Level → Turn (List Stmt)
-  row_turn level found = λ ts.
-      if sees_sep lines.Row ts then (do x ← inner (record { level = level; line = lines.Row; other = Expected }); pure (found ++ x ∷ [], true)) (next ts)
+  unfoldable pub series_turn : Level → Turn (List Stmt)
+  series_turn level found = λ ts.
+      if sees_sep lines.Series ts then (do x ← inner (record { level = level; line = lines.Series; other = Expected }); pure (found ++ x ∷ [], true)) (next ts)
       else Ok ((found, false), ts)
 
-  unfoldable pub row_from : Level → Stmt → Reader (List Stmt)
-  row_from level x = all_of (row_turn level) (x ∷ [])
+  unfoldable pub series_from : Level → Stmt → Reader (List Stmt)
+  series_from level x = all_of (series_turn level) (x ∷ [])
 
   -- statements with colons between, up to the line's end or Else
-  unfoldable pub row : Level → FaultKind → Reader (List Stmt)
-  row level other = inner (record { level = level; line = lines.Row; other = other }) >>= row_from level
+  unfoldable pub series : Level → FaultKind → Reader (List Stmt)
+  series level other = inner (record { level = level; line = lines.Series; other = other }) >>= series_from level
 
-  unfoldable pub row_end : List Token → List Token → Span
-  row_end ts rest = if sees_word w.KwElse rest then place_at rest else last_before ts rest
+  unfoldable pub series_end : List Token → List Token → Span
+  series_end ts rest = if sees_word w.KwElse rest then place_at rest else last_before ts rest
 
-  unfoldable pub row_then : Level → Reader Block
-  row_then level = λ ts. (row level ExtraText >>= (λ all rest. Ok (roll-Block (record { stmts = all; end = row_end ts rest }), rest))) ts
+  unfoldable pub series_then : Level → Reader Block
+  series_then level = λ ts. (series level ExtraText >>= (λ all rest. Ok (roll-Block (record { stmts = all; end = series_end ts rest }), rest))) ts
 
-  unfoldable pub row_else : Level → Reader Block
-  row_else level = λ ts. (row level Expected >>= (λ all rest. Ok (roll-Block (record { stmts = all; end = last_before ts rest }), rest))) ts
+  unfoldable pub series_else : Level → Reader Block
+  series_else level = λ ts. (series level Expected >>= (λ all rest. Ok (roll-Block (record { stmts = all; end = last_before ts rest }), rest))) ts
 
-  unfoldable pub row_other : Level → Reader (Option (Span × Block))
-  row_other level = λ ts. if sees_word w.KwElse ts then (do b ← row_else level; pure (Some (place_at ts, b))) (next ts) else Ok (None, ts)
+  unfoldable pub series_other : Level → Reader (Option (Span × Block))
+  series_other level = λ ts. if sees_word w.KwElse ts then (do b ← series_else level; pure (Some (place_at ts, b))) (next ts) else Ok (None, ts)
 
-  unfoldable pub if_row : Span → Expr → Level → Reader Stmt
-  if_row at condition level = do
-    one ← row_then level
-    pure (s.IfLine at condition one (← row_other level))
+  unfoldable pub if_series : Span → Expr → Level → Reader Stmt
+  if_series at condition level = do
+    one ← series_then level
+    pure (s.IfLine at condition one (← series_other level))
 
   -- ---- the If of several lines
 
-  unfoldable pub branch : Span → Expr → Level → Line → Reader Branch
+  unfoldable pub branch : Span → Expr → Level → InLine → Reader Branch
   branch at condition level line = do
     b ← body level line closers.Branches
     pure (roll-Branch (record { at = at; condition = condition; body = b }))
 
   -- behind ElseIf
-  unfoldable pub else_if : Span → Level → Line → Reader Branch
+  unfoldable pub else_if : Span → Level → InLine → Reader Branch
   else_if at level line = do
     condition ← whole most
     expect_word w.KwThen
     sep line
     branch at condition level line
 
-  unfoldable pub branch_turn : Level → Line → Turn (List Branch)
+  unfoldable pub branch_turn : Level → InLine → Turn (List Branch)
   branch_turn level line found = λ ts.
       if sees_word w.KwElseIf ts then (do b ← else_if (place_at ts) level line; pure (found ++ b ∷ [], true)) (next ts)
       else Ok ((found, false), ts)
 
-  unfoldable pub branches : Level → Line → Branch → Reader (List Branch)
+  unfoldable pub branches : Level → InLine → Branch → Reader (List Branch)
   branches level line one = all_of (branch_turn level line) (one ∷ [])
 
   -- behind Else
-  unfoldable pub else_body : Level → Line → Reader Block
+  unfoldable pub else_body : Level → InLine → Reader Block
   else_body level line = sep line >> body level line closers.Else
 
-  unfoldable pub any_else : Level → Line → Reader (Option (Span × Block))
+  unfoldable pub any_else : Level → InLine → Reader (Option (Span × Block))
   any_else level line = λ ts. if sees_word w.KwElse ts then (do b ← else_body level line; pure (Some (place_at ts, b))) (next ts) else Ok (None, ts)
 
-  unfoldable pub if_block : Span → Expr → Level → Line → Reader Stmt
+  unfoldable pub if_block : Span → Expr → Level → InLine → Reader Stmt
   if_block at condition level line = do
     one ← branch at condition level line
     all ← branches level line one
@@ -168,18 +168,18 @@ module _ (most : ℕ) (inner : Spot → Reader Stmt) (room : ℕ) where
     pure (s.If at all other (← end_of w.KwIf))
 
   -- In a block that is part of a one-line If no one-line If stands.
-  abbrev pub if_by : Line → Span → Expr → Level → Reader Stmt
-  if_by lines.Free at condition level = if_row at condition level
-  if_by lines.Row at condition level = if_row at condition level
+  abbrev pub if_by : InLine → Span → Expr → Level → Reader Stmt
+  if_by lines.Free at condition level = if_series at condition level
+  if_by lines.Series at condition level = if_series at condition level
   if_by lines.Inner at condition level = λ ts. Err (Fault (extra ts), ts)
 
   -- behind Then
-  unfoldable pub if_behind : Span → Expr → Level → Line → Reader Stmt
+  unfoldable pub if_behind : Span → Expr → Level → InLine → Reader Stmt
   if_behind at condition level line = λ ts.
       if sees_sep line ts then if_block at condition (level_within level) (line_within line) (next ts)
       else if_by line at condition (level_within level) ts
 
-  unfoldable pub if_ : Span → Level → Line → Reader Stmt
+  unfoldable pub if_ : Span → Level → InLine → Reader Stmt
   if_ at level line = do
     take_token
     condition ← whole most
@@ -206,7 +206,7 @@ module _ (most : ℕ) (inner : Spot → Reader Stmt) (room : ℕ) where
     pure (n, ty, values)
 
   -- the body, and the name behind Next
-  unfoldable pub for_tail : Level → Line → Reader (Block × Option Name)
+  unfoldable pub for_tail : Level → InLine → Reader (Block × Option Name)
   for_tail level line = do
     sep line
     b ← body level line closers.Next
@@ -214,14 +214,14 @@ module _ (most : ℕ) (inner : Spot → Reader Stmt) (room : ℕ) where
     last ← any_name
     pure (b, last)
 
-  unfoldable pub for_ : Span → Level → Line → Reader Stmt
+  unfoldable pub for_ : Span → Level → InLine → Reader Stmt
   for_ at level line = do
     take_token
     head ← for_head
     tail ← for_tail level line
     pure (s.For at head.0 head.1 head.2.0 head.2.1 head.2.2 tail.0 tail.1)
 
-  unfoldable pub while_ : Span → Level → Line → Reader Stmt
+  unfoldable pub while_ : Span → Level → InLine → Reader Stmt
   while_ at level line = do
     take_token
     condition ← whole most
@@ -230,7 +230,7 @@ module _ (most : ℕ) (inner : Spot → Reader Stmt) (room : ℕ) where
     take_token
     pure (s.While at condition b)
 
-  unfoldable pub do_ : Span → Level → Line → Reader Stmt
+  unfoldable pub do_ : Span → Level → InLine → Reader Stmt
   do_ at level line = do
     take_token
     test ← any_test most
@@ -242,22 +242,22 @@ module _ (most : ℕ) (inner : Spot → Reader Stmt) (room : ℕ) where
   -- ---- Select and Scope
 
   -- behind Case
-  unfoldable pub case_branch : Span → Level → Line → Reader CaseBranch
+  unfoldable pub case_branch : Span → Level → InLine → Reader CaseBranch
   case_branch at level line = do
     all ← cases_ most
     sep line
     b ← body level line closers.Cases
     pure (roll-CaseBranch (record { at = at; cases = all; body = b }))
 
-  unfoldable pub select_turn : Level → Line → Turn (List CaseBranch)
+  unfoldable pub select_turn : Level → InLine → Turn (List CaseBranch)
   select_turn level line found = λ ts.
       if sees_word w.KwCase ts then (do b ← case_branch (place_at ts) level line; pure (found ++ b ∷ [], true)) (next ts)
       else Ok ((found, false), ts)
 
-  unfoldable pub case_branches : Level → Line → Reader (List CaseBranch)
+  unfoldable pub case_branches : Level → InLine → Reader (List CaseBranch)
   case_branches level line = all_of (select_turn level line) []
 
-  unfoldable pub select : Span → Level → Line → Reader Stmt
+  unfoldable pub select : Span → Level → InLine → Reader Stmt
   select at level line = do
     take_token
     expect_word w.KwCase
@@ -266,7 +266,7 @@ module _ (most : ℕ) (inner : Spot → Reader Stmt) (room : ℕ) where
     all ← case_branches level line
     pure (s.Select at value all (← end_of w.KwSelect))
 
-  unfoldable pub scope : Span → Level → Line → Reader Stmt
+  unfoldable pub scope : Span → Level → InLine → Reader Stmt
   scope at level line = do
     take_token
     sep line

@@ -8,8 +8,8 @@ use Rattle.fb_lexer.specs.declared.token.Token.{Token}
 use Rattle.fb_lexer.specs.declared.token.TokenKind.TheVariants as kinds
 use Rattle.fb_lexer.specs.declared.word.Word.TheVariants as w
 use Rattle.fb_ast.specs.declared.tree.Tree.{Tree}
-use Rattle.parse_expr.specs.declared.stop.ParseErr.{ParseErr}
-use Rattle.parse_expr.specs.declared.stop.ParseErr.TheVariants as errors
+use Rattle.parse_expr.specs.declared.error.ParseErr.{ParseErr}
+use Rattle.parse_expr.specs.declared.error.ParseErr.TheVariants as errors
 use Rattle.parse_expr.specs.Expr.{fault_place}
 use Rattle.parse_expr.specs.Faults.{is_refused_kind}
 use Rattle.parse_stmt.specs.Texts.{IsText, IsTextWithin}

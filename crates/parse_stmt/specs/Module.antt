@@ -9,11 +9,11 @@ use Rattle.fb_ast.specs.declared.part.Item.{Item}
 use Rattle.fb_ast.specs.declared.part.Item.TheVariants as item
 use Rattle.fb_ast.specs.declared.stmt.Stmt.{Stmt}
 use Rattle.fb_ast.specs.declared.tree.Tree.{Tree}
-use Rattle.parse_expr.specs.declared.stop.ParseErr.{ParseErr}
+use Rattle.parse_expr.specs.declared.error.ParseErr.{ParseErr}
 use Rattle.parse_expr.specs.Reading.{Reader, Outcome, first, next, sees, sees_word, pure, ◌>>=◌, ◌>>◌, take_token}
 use Rattle.parse_expr.specs.Expr.{error_of}
 use Rattle.parse_parts.specs.declared.kinds.Level.TheVariants as levels
-use Rattle.parse_parts.specs.declared.kinds.Line.TheVariants as lines
+use Rattle.parse_parts.specs.declared.kinds.InLine.TheVariants as lines
 use Rattle.parse_parts.specs.declared.kinds.ProcedureWord.{ProcedureWord}
 use Rattle.parse_parts.specs.declared.kinds.ProcedureWord.TheVariants as words
 use Rattle.parse_parts.specs.Steps.{here, words_before, sees_sep, sep, Turn, all_of}

@@ -11,7 +11,7 @@ use Rattle.fb_ast.specs.declared.part.Name.{Name}
 use Rattle.fb_ast.specs.declared.ty.TypeName.{TypeName}
 use Rattle.parse_expr.specs.Reading.{next, sees, sees_word}
 use Rattle.parse_expr.specs.Grammar.{IsType, Is, Expression}
-use Rattle.parse_parts.specs.declared.kinds.Line.{Line}
+use Rattle.parse_parts.specs.declared.kinds.InLine.{InLine}
 use Rattle.parse_parts.specs.Steps.{place_at, sees_sep}
 
 -- ---- phrases
@@ -86,7 +86,7 @@ abbrev pub here : Phrase Span
 here = λ ts at rest. (at ≡ place_at ts) × (rest ≡ ts)
 
 -- the end of a statement
-abbrev pub sep : Line → Phrase (Unit {0})
+abbrev pub sep : InLine → Phrase (Unit {0})
 sep line = taken (sees_sep line)
 
 pub record IsName (ts : List Token) (found : Name) (rest : List Token) : Type 0 where

@@ -6,7 +6,7 @@ use Rattle.fb_ast.specs.declared.part.Item.TheVariants as item
 use Rattle.fb_ast.specs.declared.stmt.Block.{Block}
 use Rattle.parse_expr.specs.Reading.{Reader, pure, ◌>>=◌, ◌>>◌, take_token}
 use Rattle.parse_parts.specs.declared.kinds.Level.TheVariants as levels
-use Rattle.parse_parts.specs.declared.kinds.Line.TheVariants as lines
+use Rattle.parse_parts.specs.declared.kinds.InLine.TheVariants as lines
 use Rattle.parse_parts.specs.declared.kinds.ProcedureWord.{ProcedureWord}
 use Rattle.parse_parts.specs.declared.kinds.Closer.{Closer}
 use Rattle.parse_parts.specs.Steps.{here, words_before, sep}

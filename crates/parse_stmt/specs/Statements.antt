@@ -29,8 +29,8 @@ use Rattle.fb_ast.specs.declared.stmt.Stmt.{Stmt}
 use Rattle.fb_ast.specs.declared.stmt.Stmt.TheVariants as s
 use Rattle.parse_expr.specs.Reading.{first, next, sees, sees_word}
 use Rattle.parse_parts.specs.declared.kinds.Level.{Level}
-use Rattle.parse_parts.specs.declared.kinds.Line.{Line}
-use Rattle.parse_parts.specs.declared.kinds.Line.TheVariants as lines
+use Rattle.parse_parts.specs.declared.kinds.InLine.{InLine}
+use Rattle.parse_parts.specs.declared.kinds.InLine.TheVariants as lines
 use Rattle.parse_parts.specs.declared.kinds.Lead.{Lead}
 use Rattle.parse_parts.specs.declared.kinds.Lead.TheVariants as leads
 use Rattle.parse_parts.specs.Words.{level_within, line_within, lead_of}
@@ -206,22 +206,22 @@ end_of which = do
 -- ---- statements with statements inside
 
 -- statements, each with an end, and further ends
-pub data Statements (one : Phrase Stmt) (line : Line) : List Token → List Stmt → List Token → Type 0 where
+pub data Statements (one : Phrase Stmt) (line : InLine) : List Token → List Stmt → List Token → Type 0 where
   none : (ts : List Token) → Statements one line ts [] ts
   blank : (ts rest : List Token) (all : List Stmt) → sees_sep line ts ≡ true → Statements one line (next ts) all rest → Statements one line ts all rest
   some : (ts between rest : List Token) (x : Stmt) (all : List Stmt) → one ts x between → sees_sep line between ≡ true
       → Statements one line (next between) all rest → Statements one line ts (x ∷ all) rest
 
 -- The statements of a one-line If, with colons between, up to the line's end or an Else: no colon follows.
-pub data Row (one : Phrase Stmt) : List Token → List Stmt → List Token → Type 0 where
-  last : (ts rest : List Token) (x : Stmt) → one ts x rest → sees_sep lines.Row rest ≡ false → Row one ts (x ∷ []) rest
-  another : (ts between rest : List Token) (x : Stmt) (all : List Stmt) → one ts x between → sees_sep lines.Row between ≡ true
-      → Row one (next between) all rest → Row one ts (x ∷ all) rest
+pub data Series (one : Phrase Stmt) : List Token → List Stmt → List Token → Type 0 where
+  last : (ts rest : List Token) (x : Stmt) → one ts x rest → sees_sep lines.Series rest ≡ false → Series one ts (x ∷ []) rest
+  another : (ts between rest : List Token) (x : Stmt) (all : List Stmt) → one ts x between → sees_sep lines.Series between ≡ true
+      → Series one (next between) all rest → Series one ts (x ∷ all) rest
 
 -- The statements inside stand for themselves, by where they stand in the module and in their line.
-module _ (most : ℕ) (inner : Level → Line → Phrase Stmt) where
+module _ (most : ℕ) (inner : Level → InLine → Phrase Stmt) where
   -- a block, up to the place of what ends it
-  abbrev pub body : Level → Line → Phrase Block
+  abbrev pub body : Level → InLine → Phrase Block
   body level line = do
     all ← Statements (inner level line) line
     end ← here
@@ -230,31 +230,31 @@ module _ (most : ℕ) (inner : Level → Line → Phrase Stmt) where
   -- ---- If
 
   -- what is done then, up to the Else or the last token
-  abbrev pub then_row : Level → Phrase Block
-  then_row level = λ ts b rest. (all : List Stmt) × Row (inner level lines.Row) ts all rest
+  abbrev pub then_series : Level → Phrase Block
+  then_series level = λ ts b rest. (all : List Stmt) × Series (inner level lines.Series) ts all rest
       × (b ≡ roll-Block (record { stmts = all; end = if sees_word w.KwElse rest then place_at rest else last_before ts rest }))
 
-  abbrev pub else_row : Level → Phrase Block
-  else_row level = λ ts b rest. (all : List Stmt) × Row (inner level lines.Row) ts all rest
+  abbrev pub else_series : Level → Phrase Block
+  else_series level = λ ts b rest. (all : List Stmt) × Series (inner level lines.Series) ts all rest
       × (b ≡ roll-Block (record { stmts = all; end = last_before ts rest }))
 
   -- An Else belongs to the innermost If that can take it.
-  abbrev pub row_other : Level → Phrase (Option (Span × Block))
-  row_other level = either (do at ← here; word w.KwElse; b ← else_row level; gives (Some (at, b)))
+  abbrev pub series_other : Level → Phrase (Option (Span × Block))
+  series_other level = either (do at ← here; word w.KwElse; b ← else_series level; gives (Some (at, b)))
       (before (λ rest. if sees_word w.KwElse rest then false else true) (gives None))
 
-  abbrev pub if_row : Span → Expr → Level → Phrase Stmt
-  if_row at condition level = do
-    one ← then_row level
-    other ← row_other level
+  abbrev pub if_series : Span → Expr → Level → Phrase Stmt
+  if_series at condition level = do
+    one ← then_series level
+    other ← series_other level
     gives (s.IfLine at condition one other)
 
-  abbrev pub branch : Span → Expr → Level → Line → Phrase Branch
+  abbrev pub branch : Span → Expr → Level → InLine → Phrase Branch
   branch at condition level line = do
     b ← body level line
     gives (roll-Branch (record { at = at; condition = condition; body = b }))
 
-  abbrev pub else_if : Level → Line → Phrase Branch
+  abbrev pub else_if : Level → InLine → Phrase Branch
   else_if level line = do
     at ← here
     word w.KwElseIf
@@ -263,10 +263,10 @@ module _ (most : ℕ) (inner : Level → Line → Phrase Stmt) where
     sep line
     branch at condition level line
 
-  abbrev pub last_else : Level → Line → Phrase (Option (Span × Block))
+  abbrev pub last_else : Level → InLine → Phrase (Option (Span × Block))
   last_else level line = either (do at ← here; word w.KwElse; b ← (sep line >> body level line); gives (Some (at, b))) (gives None)
 
-  abbrev pub if_block : Span → Expr → Level → Line → Phrase Stmt
+  abbrev pub if_block : Span → Expr → Level → InLine → Phrase Stmt
   if_block at condition level line = do
     one ← branch at condition level line
     more ← Many (else_if level line)
@@ -275,12 +275,12 @@ module _ (most : ℕ) (inner : Level → Line → Phrase Stmt) where
     gives (s.If at (one ∷ more) other end)
 
   -- In a block that is part of a one-line If no one-line If stands.
-  abbrev pub if_line : Line → Span → Expr → Level → Phrase Stmt
-  if_line lines.Free at condition level = if_row at condition level
-  if_line lines.Row at condition level = if_row at condition level
+  abbrev pub if_line : InLine → Span → Expr → Level → Phrase Stmt
+  if_line lines.Free at condition level = if_series at condition level
+  if_line lines.Series at condition level = if_series at condition level
   if_line lines.Inner at condition level = λ ts x rest. ⊥
 
-  abbrev pub if_ : Span → Level → Line → Phrase Stmt
+  abbrev pub if_ : Span → Level → InLine → Phrase Stmt
   if_ at level line = do
     any_token
     condition ← expression most
@@ -290,7 +290,7 @@ module _ (most : ℕ) (inner : Level → Line → Phrase Stmt) where
   -- ---- loops
 
   -- the body, and the name behind Next
-  abbrev pub for_tail : Level → Line → Phrase (Block × Option Name)
+  abbrev pub for_tail : Level → InLine → Phrase (Block × Option Name)
   for_tail level line = do
     sep line
     b ← body level line
@@ -298,14 +298,14 @@ module _ (most : ℕ) (inner : Level → Line → Phrase Stmt) where
     again ← maybe name
     gives (b, again)
 
-  abbrev pub for_ : Span → Level → Line → Phrase Stmt
+  abbrev pub for_ : Span → Level → InLine → Phrase Stmt
   for_ at level line = do
     any_token
     head ← for_head most
     tail ← for_tail level line
     gives (s.For at head.0 head.1 head.2.0 head.2.1 head.2.2 tail.0 tail.1)
 
-  abbrev pub while_ : Span → Level → Line → Phrase Stmt
+  abbrev pub while_ : Span → Level → InLine → Phrase Stmt
   while_ at level line = do
     any_token
     condition ← expression most
@@ -314,7 +314,7 @@ module _ (most : ℕ) (inner : Level → Line → Phrase Stmt) where
     word w.KwWend
     gives (s.While at condition b)
 
-  abbrev pub do_ : Span → Level → Line → Phrase Stmt
+  abbrev pub do_ : Span → Level → InLine → Phrase Stmt
   do_ at level line = do
     any_token
     one ← maybe (test most)
@@ -326,7 +326,7 @@ module _ (most : ℕ) (inner : Level → Line → Phrase Stmt) where
 
   -- ---- Select and Scope
 
-  abbrev pub case_branch : Level → Line → Phrase CaseBranch
+  abbrev pub case_branch : Level → InLine → Phrase CaseBranch
   case_branch level line = do
     at ← here
     word w.KwCase
@@ -335,7 +335,7 @@ module _ (most : ℕ) (inner : Level → Line → Phrase Stmt) where
     b ← body level line
     gives (roll-CaseBranch (record { at = at; cases = all; body = b }))
 
-  abbrev pub select : Span → Level → Line → Phrase Stmt
+  abbrev pub select : Span → Level → InLine → Phrase Stmt
   select at level line = do
     any_token
     word w.KwCase
@@ -345,7 +345,7 @@ module _ (most : ℕ) (inner : Level → Line → Phrase Stmt) where
     end ← end_of w.KwSelect
     gives (s.Select at x all end)
 
-  abbrev pub scope : Span → Level → Line → Phrase Stmt
+  abbrev pub scope : Span → Level → InLine → Phrase Stmt
   scope at level line = do
     any_token
     sep line
@@ -356,7 +356,7 @@ module _ (most : ℕ) (inner : Level → Line → Phrase Stmt) where
   -- ---- statements
 
   -- a statement from its first token on, by what that is
-  abbrev pub led : Span → Level → Line → Lead → Phrase Stmt
+  abbrev pub led : Span → Level → InLine → Lead → Phrase Stmt
   led at level line leads.Dim = any_token >> dim_with most (may_share level) at
   led at level line leads.Static = any_token >> variables most at storage.Static
   led at level line leads.Const = any_token >> constant most at
@@ -382,10 +382,10 @@ module _ (most : ℕ) (inner : Level → Line → Phrase Stmt) where
   led at level line leads.Value = valued most at
   led at level line leads.Nothing = λ ts x rest. ⊥
 
-  abbrev pub statement : Level → Line → Phrase Stmt
+  abbrev pub statement : Level → InLine → Phrase Stmt
   statement level line = λ ts x rest. (t : Token) × (more : List Token) × (ts ≡ t ∷ more) × led t.at level line (lead_of level t.kind) ts x rest
 
 -- A statement that is at most so deep: those inside are at most one less deep.
-abbrev pub stmt : ℕ → ℕ → Level → Line → Phrase Stmt
+abbrev pub stmt : ℕ → ℕ → Level → InLine → Phrase Stmt
 stmt most zero level line = λ ts x rest. ⊥
 stmt most (suc room) level line = statement most (stmt most room) level line

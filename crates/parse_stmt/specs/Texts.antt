@@ -23,7 +23,7 @@ use Rattle.fb_ast.specs.declared.stmt.Stmt.{Stmt}
 use Rattle.fb_ast.specs.declared.tree.Tree.{Tree}
 use Rattle.parse_expr.specs.Reading.{next}
 use Rattle.parse_parts.specs.declared.kinds.Level.TheVariants as levels
-use Rattle.parse_parts.specs.declared.kinds.Line.TheVariants as lines
+use Rattle.parse_parts.specs.declared.kinds.InLine.TheVariants as lines
 use Rattle.parse_parts.specs.declared.kinds.Closer.{Closer}
 use Rattle.parse_parts.specs.declared.kinds.Closer.TheVariants as closers
 use Rattle.parse_parts.specs.Steps.{words_before, sees_sep}

@@ -6,8 +6,8 @@ ghost use Rattle.parse_stmt.specs.Procedures as spec;
 use crate::nest::Nest;
 use crate::statements::stmt;
 use fb_ast::{Block, Item, Procedure, ProcedureKind};
-use parse_expr::{Cursor, Stop};
-use parse_parts::{Closer, Level, Line, ProcedureWord, opened, place_at, sep, words_before};
+use parse_expr::{Cursor, ReadErr};
+use parse_parts::{Closer, InLine, Level, ProcedureWord, opened, place_at, sep, words_before};
 use std::alloc::Global;
 
 // The statements of a procedure, each at most so deep.
@@ -17,7 +17,7 @@ fn statements(
     cursor: &mut Cursor<'_>,
     room: usize,
     closer: Closer,
-) -> Result<Block, Stop>
+) -> Result<Block, ReadErr>
     requires { room ≤ 199 }
     ensures { Reads (spec.statements 200 room closer cursor.old) result cursor.new }
 {
@@ -26,7 +26,7 @@ fn statements(
         room,
         inner: stmt,
     }
-    .body(cursor, Level::Procedure, Line::Free, closer)
+    .body(cursor, Level::Procedure, InLine::Free, closer)
 }
 
 // Behind the head, up to the word behind End.
@@ -36,11 +36,11 @@ fn procedure_body(
     cursor: &mut Cursor<'_>,
     room: usize,
     closer: Closer,
-) -> Result<Block, Stop>
+) -> Result<Block, ReadErr>
     requires { room ≤ 199 }
     ensures { Reads (spec.procedure_body 200 room closer cursor.old) result cursor.new }
 {
-    sep(cursor, Line::Free)?;
+    sep(cursor, InLine::Free)?;
     let body = statements(alloc, cursor, room, closer)?;
     cursor.take();
     cursor.take();
@@ -53,7 +53,7 @@ fn procedure_parts(
     cursor: &mut Cursor<'_>,
     room: usize,
     word: ProcedureWord,
-) -> Result<(ProcedureKind, Block), Stop>
+) -> Result<(ProcedureKind, Block), ReadErr>
     requires { room ≤ 199 }
     ensures { Reads (spec.procedure_parts 200 room word cursor.old) result cursor.new }
 {
@@ -67,12 +67,13 @@ fn procedure_parts(
 /// A procedure from its first word, which comes next, up to the word behind its End (FreeBASIC Manual, Sub, Function).
 /// Each of its statements is at most so deep, at most 199.
 #[tactic(auto, unfolding(crate::specs::Procedures::procedure))]
+#[inline(never)]
 pub fn procedure(
     alloc: Global,
     cursor: &mut Cursor<'_>,
     room: usize,
     word: ProcedureWord,
-) -> Result<Item, Stop>
+) -> Result<Item, ReadErr>
     requires { room ≤ 199 }
     ensures { Reads (spec.procedure 200 room word cursor.old) result cursor.new }
 {

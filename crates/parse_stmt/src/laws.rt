@@ -6,7 +6,7 @@ ghost use Rattle.parse_stmt.specs.Module.{tree_of};
 ghost use Rattle.parse_stmt.specs.Texts.{IsText};
 ghost use Rattle.parse_stmt.specs.Faults.{FirstAt};
 ghost use Rattle.fb_base.specs.declared.fault.Fault.{Fault};
-ghost use Rattle.parse_expr.specs.declared.stop.ParseErr.TheVariants as errors;
+ghost use Rattle.parse_expr.specs.declared.error.ParseErr.TheVariants as errors;
 
 /// What is read is a text by the grammar, each expression, statement and procedure at most 200 deep.
 pub fn texts_read()

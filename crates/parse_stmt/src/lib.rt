@@ -8,7 +8,7 @@ mod looped;
 mod module;
 mod nest;
 mod reading;
-mod rows;
+mod series;
 mod statements;
 
 pub use laws::{faults_found, first_fault, one_text, texts_found, texts_read};

@@ -9,9 +9,9 @@ use crate::statements::stmt;
 use fb_ast::{Item, Stmt};
 use fb_base::FaultKind;
 use fb_lexer::{Mark, Word};
-use parse_expr::{Cursor, Stop};
+use parse_expr::{Cursor, ReadErr};
 use parse_parts::{
-    Level, Line, ProcedureWord, Spot, declared, place_at, sees_sep, sep, type_def, words_before,
+    InLine, Level, ProcedureWord, Spot, declared, place_at, sees_sep, sep, type_def, words_before,
 };
 use sqlite_items::Items;
 use std::alloc::Global;
@@ -28,7 +28,8 @@ pub struct Found {
 
 // Declare, which comes next.
 #[tactic(auto, unfolding(crate::specs::Module::declare))]
-fn declare(alloc: Global, cursor: &mut Cursor<'_>) -> Result<Item, Stop>
+#[inline(never)]
+fn declare(alloc: Global, cursor: &mut Cursor<'_>) -> Result<Item, ReadErr>
     ensures { Reads (spec.declare cursor.old) result cursor.new }
 {
     let at = place_at(cursor);
@@ -37,17 +38,17 @@ fn declare(alloc: Global, cursor: &mut Cursor<'_>) -> Result<Item, Stop>
 }
 
 // The end of what stands at the module's level, which the end of the text is, too.
-fn ended(cursor: &mut Cursor<'_>) -> Result<(), Stop>
+fn ended(cursor: &mut Cursor<'_>) -> Result<(), ReadErr>
     ensures { Reads (spec.ended_by (first cursor.old) cursor.old) result cursor.new }
 {
     match cursor.peek() {
-        Some(_) => sep(cursor, Line::Free),
+        Some(_) => sep(cursor, InLine::Free),
         None => Ok(()),
     }
 }
 
 #[tactic(auto, unfolding(crate::specs::Module::ended_item))]
-fn ended_item(cursor: &mut Cursor<'_>, found: &mut Found, one: Item) -> Result<bool, Stop>
+fn ended_item(cursor: &mut Cursor<'_>, found: &mut Found, one: Item) -> Result<bool, ReadErr>
     ensures turns { Turns (spec.ended_item found.old one cursor.old) found.new result cursor.new }
     ensures few { found.new.tokens ≤ found.old.tokens + 65536 }
 {
@@ -58,14 +59,15 @@ fn ended_item(cursor: &mut Cursor<'_>, found: &mut Found, one: Item) -> Result<b
 
 // A statement of the main module, and how many tokens it has.
 #[tactic(auto, unfolding(crate::specs::Module::main_stmt))]
-fn main_stmt(alloc: Global, cursor: &mut Cursor<'_>) -> Result<(Stmt, usize), Stop>
+#[inline(never)]
+fn main_stmt(alloc: Global, cursor: &mut Cursor<'_>) -> Result<(Stmt, usize), ReadErr>
     ensures reads { Reads (spec.main_stmt 200 199 cursor.old) result cursor.new }
     ensures few { IfOk result (λ x. x.1 ≤ 65536) }
 {
     let before = cursor.copy();
     let spot = Spot {
         level: Level::Module,
-        line: Line::Free,
+        line: InLine::Free,
         other: FaultKind::ExtraText,
     };
     let one = stmt(alloc, cursor, ROOM + 1, spot)?;
@@ -78,7 +80,7 @@ fn ended_stmt(
     found: &mut Found,
     one: Stmt,
     tokens: usize,
-) -> Result<bool, Stop>
+) -> Result<bool, ReadErr>
     requires room { found.old.tokens ≤ 4294967296 }
     requires few { tokens ≤ 65536 }
     ensures turns { Turns (spec.ended_stmt found.old (one, tokens) cursor.old) found.new result cursor.new }
@@ -132,7 +134,7 @@ fn item_by(
     cursor: &mut Cursor<'_>,
     found: &mut Found,
     word: Option<ProcedureWord>,
-) -> Result<bool, Stop>
+) -> Result<bool, ReadErr>
     requires { found.old.tokens ≤ 4294967296 }
     ensures turns { Turns (spec.item_by 200 199 found.old word cursor.old) found.new result cursor.new }
     ensures few { found.new.tokens ≤ found.old.tokens + 65536 }
@@ -150,7 +152,7 @@ fn item_by(
 }
 
 #[tactic(auto, unfolding(crate::specs::Module::one_item))]
-fn one_item(alloc: Global, cursor: &mut Cursor<'_>, found: &mut Found) -> Result<bool, Stop>
+fn one_item(alloc: Global, cursor: &mut Cursor<'_>, found: &mut Found) -> Result<bool, ReadErr>
     requires { found.old.tokens ≤ 4294967296 }
     ensures turns { Turns (spec.one_item 200 199 found.old cursor.old) found.new result cursor.new }
     ensures few { found.new.tokens ≤ found.old.tokens + 65536 }
@@ -168,12 +170,12 @@ fn one_item(alloc: Global, cursor: &mut Cursor<'_>, found: &mut Found) -> Result
 }
 
 #[tactic(auto, unfolding(crate::specs::Module::more_items))]
-fn more_items(alloc: Global, cursor: &mut Cursor<'_>, found: &mut Found) -> Result<bool, Stop>
+fn more_items(alloc: Global, cursor: &mut Cursor<'_>, found: &mut Found) -> Result<bool, ReadErr>
     requires { found.old.tokens ≤ 4294967296 }
     ensures turns { Turns (spec.more_items 200 199 found.old cursor.old) found.new result cursor.new }
     ensures few { found.new.tokens ≤ found.old.tokens + 65536 }
 {
-    if sees_sep(cursor, Line::Free) {
+    if sees_sep(cursor, InLine::Free) {
         cursor.take();
         return Ok(true);
     }
@@ -182,7 +184,7 @@ fn more_items(alloc: Global, cursor: &mut Cursor<'_>, found: &mut Found) -> Resu
 
 // What stands next at the module's level, if the text doesn't end.
 #[tactic(auto, unfolding(crate::specs::Module::item_turn))]
-fn item_turn(alloc: Global, cursor: &mut Cursor<'_>, found: &mut Found) -> Result<bool, Stop>
+fn item_turn(alloc: Global, cursor: &mut Cursor<'_>, found: &mut Found) -> Result<bool, ReadErr>
     requires { found.old.tokens ≤ 4294967296 }
     ensures turns { Turns (spec.item_turn 200 199 found.old cursor.old) found.new result cursor.new }
     ensures few { found.new.tokens ≤ found.old.tokens + 65536 }
@@ -195,7 +197,7 @@ fn item_turn(alloc: Global, cursor: &mut Cursor<'_>, found: &mut Found) -> Resul
 
 /// What a module is made of, up to the end of its text, and how many tokens its statements have.
 #[tactic(auto, unfolding(crate::specs::Module::module_))]
-pub fn module_(alloc: Global, cursor: &mut Cursor<'_>) -> Result<Found, Stop>
+pub fn module_(alloc: Global, cursor: &mut Cursor<'_>) -> Result<Found, ReadErr>
     ensures { Reads (spec.module_ 200 199 cursor.old) result cursor.new }
 {
     let mut found = Found {

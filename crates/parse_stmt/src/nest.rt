@@ -8,9 +8,10 @@ ghost use Rattle.parse_stmt.specs.Nests.{Nests};
 use fb_ast::{Block, Stmt};
 use fb_base::{FaultKind, Span};
 use fb_lexer::Word;
-use parse_expr::{Cursor, Stop};
+use parse_expr::{Cursor, ReadErr};
 use parse_parts::{
-    Closer, Level, Line, Spot, astray, ends_with_end, place_at, sees_sep, sees_value, sep,
+    Closer, InLine, Level, Spot, Turning, all_of, astray, ends_with_end, place_at, sees_sep,
+    sees_value, sep,
 };
 use sqlite_items::Items;
 use std::alloc::Global;
@@ -64,7 +65,7 @@ fn closed(cursor: &Cursor<'_>, closer: Closer) -> bool
 // What is wrong behind an End that may not begin a statement, since no statement can be deep enough, but may end the
 // block: only what would make it a statement is forbidden by the depth.
 #[tactic(auto, unfolding(crate::specs::Blocks::behind_end))]
-fn behind_end(cursor: &Cursor<'_>, line: Line) -> FaultKind
+fn behind_end(cursor: &Cursor<'_>, line: InLine) -> FaultKind
     ensures { result ≡ spec.behind_end line cursor.now }
 {
     if sees_value(cursor) {
@@ -77,16 +78,16 @@ fn behind_end(cursor: &Cursor<'_>, line: Line) -> FaultKind
 }
 
 #[tactic(auto, unfolding(crate::specs::Blocks::deep_end))]
-fn deep_end(cursor: &mut Cursor<'_>, line: Line) -> Stop
+fn deep_end(cursor: &mut Cursor<'_>, line: InLine) -> ReadErr
     ensures { spec.deep_end line cursor.old ≡ Err (result, cursor.new) }
 {
     cursor.take();
-    Stop::Fault(behind_end(cursor, line))
+    ReadErr::Fault(behind_end(cursor, line))
 }
 
 /// End and this word, and the place of End.
 #[tactic(auto, unfolding(crate::specs::Blocks::end_of))]
-pub fn end_of(cursor: &mut Cursor<'_>, word: Word) -> Result<Span, Stop>
+pub fn end_of(cursor: &mut Cursor<'_>, word: Word) -> Result<Span, ReadErr>
     ensures { Reads (spec.end_of word cursor.old) result cursor.new }
 {
     let at = place_at(cursor);
@@ -95,9 +96,45 @@ pub fn end_of(cursor: &mut Cursor<'_>, word: Word) -> Result<Span, Stop>
     Ok(at)
 }
 
-impl<F: Fn(Global, &mut Cursor<'_>, usize, Spot) -> Result<Stmt, Stop>> Nest<F> {
+// A statement of a block, or the end of one.
+#[derive(Drop)]
+struct StmtTurns<'a, F> {
+    nest: &'a Nest<F>,
+    level: Level,
+    line: InLine,
+    closer: Closer,
+}
+
+impl<'a, F: Fn(Global, &mut Cursor<'_>, usize, Spot) -> Result<Stmt, ReadErr>> Turning<Items<Stmt>>
+    for StmtTurns<'a, F> {
+    ghost ready = { λ t. Nests t.nest.now.room (F.pre t.nest.now.inner) (F.post t.nest.now.inner) };
+
+    ghost turned = { λ t. spec.block_turn 200 (spec.stmt 200 t.nest.now.room) t.nest.now.room t.level t.line t.closer };
+
+    #[tactic(auto, unfolding(crate::specs::Blocks::block_turn))]
+    fn turn(
+        &self,
+        _alloc: Global,
+        cursor: &mut Cursor<'_>,
+        found: &mut Items<Stmt>,
+    ) -> Result<bool, ReadErr> {
+        if sees_sep(cursor, self.line) {
+            cursor.take();
+            return Ok(true);
+        }
+        if closed(cursor, self.closer) {
+            return Ok(false);
+        }
+        let one = self
+            .nest
+            .block_stmt(cursor, self.level, self.line, self.closer)?;
+        self.nest.ended(cursor, self.line, one, found)
+    }
+}
+
+impl<F: Fn(Global, &mut Cursor<'_>, usize, Spot) -> Result<Stmt, ReadErr>> Nest<F> {
     /// A statement inside.
-    pub fn inner(&self, cursor: &mut Cursor<'_>, spot: Spot) -> Result<Stmt, Stop>
+    pub fn inner(&self, cursor: &mut Cursor<'_>, spot: Spot) -> Result<Stmt, ReadErr>
         requires { Nests self.now.room (F.pre self.now.inner) (F.post self.now.inner) }
         ensures { Reads (spec.stmt 200 self.now.room spot cursor.old) result cursor.new }
     {
@@ -123,9 +160,9 @@ impl<F: Fn(Global, &mut Cursor<'_>, usize, Spot) -> Result<Stmt, Stop>> Nest<F> 
         &self,
         cursor: &mut Cursor<'_>,
         level: Level,
-        line: Line,
+        line: InLine,
         closer: Closer,
-    ) -> Result<Stmt, Stop>
+    ) -> Result<Stmt, ReadErr>
         requires { Nests self.now.room (F.pre self.now.inner) (F.post self.now.inner) }
         ensures { Reads (spec.block_stmt 200 (spec.stmt 200 self.now.room) self.now.room level line closer cursor.old) result cursor.new }
     {
@@ -141,10 +178,10 @@ impl<F: Fn(Global, &mut Cursor<'_>, usize, Spot) -> Result<Stmt, Stop>> Nest<F> 
     fn ended(
         &self,
         cursor: &mut Cursor<'_>,
-        line: Line,
+        line: InLine,
         one: Stmt,
         found: &mut Items<Stmt>,
-    ) -> Result<bool, Stop>
+    ) -> Result<bool, ReadErr>
         ensures { Turns (spec.ended 200 (spec.stmt 200 self.now.room) self.now.room line found.old one cursor.old) found.new result cursor.new }
     {
         sep(cursor, line)?;
@@ -152,48 +189,24 @@ impl<F: Fn(Global, &mut Cursor<'_>, usize, Spot) -> Result<Stmt, Stop>> Nest<F> 
         Ok(true)
     }
 
-    #[tactic(auto, unfolding(crate::specs::Blocks::block_turn))]
-    fn block_turn(
-        &self,
-        cursor: &mut Cursor<'_>,
-        level: Level,
-        line: Line,
-        closer: Closer,
-        found: &mut Items<Stmt>,
-    ) -> Result<bool, Stop>
-        requires { Nests self.now.room (F.pre self.now.inner) (F.post self.now.inner) }
-        ensures { Turns (spec.block_turn 200 (spec.stmt 200 self.now.room) self.now.room level line closer found.old cursor.old) found.new result cursor.new }
-    {
-        if sees_sep(cursor, line) {
-            cursor.take();
-            return Ok(true);
-        }
-        if closed(cursor, closer) {
-            return Ok(false);
-        }
-        let one = self.block_stmt(cursor, level, line, closer)?;
-        self.ended(cursor, line, one, found)
-    }
-
     #[tactic(auto, unfolding(crate::specs::Blocks::block))]
     fn block(
         &self,
         cursor: &mut Cursor<'_>,
         level: Level,
-        line: Line,
+        line: InLine,
         closer: Closer,
-    ) -> Result<Items<Stmt>, Stop>
+    ) -> Result<Items<Stmt>, ReadErr>
         requires { Nests self.now.room (F.pre self.now.inner) (F.post self.now.inner) }
         ensures { Reads (spec.block 200 (spec.stmt 200 self.now.room) self.now.room level line closer cursor.old) result cursor.new }
     {
-        let mut found = Items::new(self.alloc);
-        for _turn in 0..cursor.left() + 1 {
-            let more = self.block_turn(cursor, level, line, closer, &mut found)?;
-            if !more {
-                return Ok(found);
-            }
-        }
-        Err(cursor.refuse())
+        let turn = StmtTurns {
+            nest: self,
+            level,
+            line,
+            closer,
+        };
+        all_of(self.alloc, cursor, &turn, Items::new(self.alloc))
     }
 
     /// A block, and the place of what ends it, which comes next.
@@ -202,9 +215,9 @@ impl<F: Fn(Global, &mut Cursor<'_>, usize, Spot) -> Result<Stmt, Stop>> Nest<F> 
         &self,
         cursor: &mut Cursor<'_>,
         level: Level,
-        line: Line,
+        line: InLine,
         closer: Closer,
-    ) -> Result<Block, Stop>
+    ) -> Result<Block, ReadErr>
         requires { Nests self.now.room (F.pre self.now.inner) (F.post self.now.inner) }
         ensures { Reads (spec.body 200 (spec.stmt 200 self.now.room) self.now.room level line closer cursor.old) result cursor.new }
     {

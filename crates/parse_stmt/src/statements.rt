@@ -7,16 +7,22 @@ ghost use Rattle.parse_stmt.specs.Nests.{Nests};
 use crate::nest::Nest;
 use fb_ast::Stmt;
 use fb_base::{FaultKind, Span};
-use parse_expr::{Cursor, Stop};
+use parse_expr::{Cursor, ReadErr};
 use parse_parts::{
     EXPECTED, Lead, Spot, astray, called, constant, continue_, delete, dim, end_, exit, lead_of,
     level_within, line_input, line_within, print, result_, return_, static_, valued,
 };
 use std::alloc::Global;
 
-impl<F: Fn(Global, &mut Cursor<'_>, usize, Spot) -> Result<Stmt, Stop>> Nest<F> {
+impl<F: Fn(Global, &mut Cursor<'_>, usize, Spot) -> Result<Stmt, ReadErr>> Nest<F> {
     // A statement from its first token on, by what that is.
-    fn led(&self, cursor: &mut Cursor<'_>, at: Span, spot: Spot, lead: Lead) -> Result<Stmt, Stop>
+    fn led(
+        &self,
+        cursor: &mut Cursor<'_>,
+        at: Span,
+        spot: Spot,
+        lead: Lead,
+    ) -> Result<Stmt, ReadErr>
         requires { Nests self.now.room (F.pre self.now.inner) (F.post self.now.inner) }
         ensures { Reads (spec.led 200 (spec.stmt 200 self.now.room) self.now.room at spot lead cursor.old) result cursor.new }
     {
@@ -42,13 +48,13 @@ impl<F: Fn(Global, &mut Cursor<'_>, usize, Spot) -> Result<Stmt, Stop>> Nest<F> 
             Lead::End => end_(self.alloc, cursor, at),
             Lead::Call(word) => called(self.alloc, cursor, at, word),
             Lead::Value => valued(self.alloc, cursor, at),
-            Lead::Nothing => Err(Stop::Fault(astray(cursor, spot.other))),
+            Lead::Nothing => Err(ReadErr::Fault(astray(cursor, spot.other))),
         }
     }
 
     // A statement whose statements inside are at most so deep.
     #[tactic(auto, unfolding(crate::specs::Blocks::statement))]
-    fn statement(&self, cursor: &mut Cursor<'_>, spot: Spot) -> Result<Stmt, Stop>
+    fn statement(&self, cursor: &mut Cursor<'_>, spot: Spot) -> Result<Stmt, ReadErr>
         requires { Nests self.now.room (F.pre self.now.inner) (F.post self.now.inner) }
         ensures { Reads (spec.statement 200 (spec.stmt 200 self.now.room) self.now.room spot cursor.old) result cursor.new }
     {
@@ -70,17 +76,22 @@ fn deep_by(cursor: &Cursor<'_>, spot: Spot, lead: Lead) -> FaultKind
 
 /// Where no statement can be deep enough: what is wrong with the next token.
 #[tactic(auto, unfolding(crate::specs::Blocks::no_room))]
-pub fn no_room(cursor: &Cursor<'_>, spot: Spot) -> Stop
+pub fn no_room(cursor: &Cursor<'_>, spot: Spot) -> ReadErr
     ensures { spec.no_room spot cursor.now ≡ Err (result, cursor.now) }
 {
     match cursor.peek() {
-        Some(token) => Stop::Fault(deep_by(cursor, spot, lead_of(spot.level, &token.kind))),
+        Some(token) => ReadErr::Fault(deep_by(cursor, spot, lead_of(spot.level, &token.kind))),
         None => EXPECTED,
     }
 }
 
 /// A statement that is at most so deep, at most 200, from the next token on.
-pub fn stmt(alloc: Global, cursor: &mut Cursor<'_>, room: usize, spot: Spot) -> Result<Stmt, Stop>
+pub fn stmt(
+    alloc: Global,
+    cursor: &mut Cursor<'_>,
+    room: usize,
+    spot: Spot,
+) -> Result<Stmt, ReadErr>
     requires { room ≤ 200 }
     ensures { Reads (spec.stmt 200 room spot cursor.old) result cursor.new }
 {

@@ -8,8 +8,6 @@ mod memory;
 mod offsets;
 mod place;
 mod table;
-#[cfg(test)]
-mod tests;
 
 use fb_base::NoMemory;
 pub use kinds::{BadFree, BadPointer, Cell, Form, MakeErr};

@@ -1,14 +1,10 @@
 -- What Print writes.
-use Rattle.std.specs.Prelude.{ℕ, ◌+◌, ◌-◌, ◌%◌, ◌^◌, ◌≤◌, ◌==◌, nat_lt, true, false, if◌then◌else◌, List, [], ◌∷◌, length, replicate, codes, decimal}
+use Rattle.std.specs.Prelude.{ℕ, ◌+◌, ◌-◌, ◌%◌, ◌^◌, ◌≤◌, ◌==◌, true, false, if◌then◌else◌, List, [], ◌∷◌, length, replicate, codes, decimal}
+use Rattle.thread_system.specs.Printing.{signed_item}
 use Rattle.rt_text.specs.declared.print.Item.{Item}
 use Rattle.rt_text.specs.declared.print.Item.TheVariants.{Signed, Unsigned, Truth, Bytes, Tab, Line}
 
--- A number of a signed type, as a 64-bit word: a space where it isn't negative, else a minus sign, and its decimal
--- digits.
-abbrev pub signed_item : ℕ → List ℕ
-signed_item word = if nat_lt word (2 ^ 63) then 32 ∷ decimal word else 45 ∷ decimal (2 ^ 64 - word)
-
--- The bytes of an item at a column. A comma goes on to the next column that 14 divides.
+-- The bytes of an item at a column; a number is a 64-bit word. A comma goes on to the next column that 14 divides.
 abbrev pub printed : ℕ → Item → List ℕ
 printed column (Signed word) = signed_item word
 printed column (Unsigned word) = decimal word

@@ -1,10 +1,10 @@
-ghost use Rattle.std.specs.Prelude.{◌≡◌, ◌+◌, ◌<◌, ◌≤◌, ◌^◌, ◌++◌, ◌∷◌, [], length, replicate, decimal, IfOk};
-ghost use Rattle.rt_text.specs.Print.{FitsColumn, printed, column_after, signed_item};
+ghost use Rattle.std.specs.Prelude.{◌≡◌, ◌+◌, ◌<◌, ◌≤◌, ◌^◌, ◌++◌, ◌∷◌, [], length, replicate, IfOk};
+ghost use Rattle.rt_text.specs.Print.{FitsColumn, printed, column_after};
 
 use fb_base::{NoMemory, Text};
-use itoa::Buffer;
 use memchr::memrchr;
 use std::alloc::Global;
+use text_functions::{signed_behind, unsigned_text};
 
 /// What Print writes at once: a value, or what a comma or the line's end stands for.
 #[derive(Debug, Drop)]
@@ -44,37 +44,14 @@ fn printed(alloc: Global, column: u64, item: Item) -> Result<Text, NoMemory>
     ensures short { IfOk result (λ text. length text ≤ 2 ^ 62) }
 {
     match item {
-        Item::Signed(word) => signed_item(alloc, word),
-        Item::Unsigned(word) => unsigned_item(alloc, word),
+        Item::Signed(word) => signed_behind(alloc, b" ", word),
+        Item::Unsigned(word) => unsigned_text(alloc, word),
         Item::Truth(true) => Text::of(alloc, b"true"),
         Item::Truth(false) => Text::of(alloc, b"false"),
         Item::Bytes(text) => Ok(text),
         Item::Tab => Text::of(alloc, spaces(14 - (column % 14) as usize)),
         Item::Line => Text::of(alloc, b"\n"),
     }
-}
-
-// The decimal digits of a number, with a space before it where it isn't negative as a signed one.
-fn signed_item(alloc: Global, word: u64) -> Result<Text, NoMemory>
-    ensures bytes { IfOk result (λ text. text ≡ signed_item word) }
-    ensures short { IfOk result (λ text. length text ≤ 41) }
-{
-    let mut buffer = Buffer::new();
-    let negative = word > 0x7fff_ffff_ffff_ffff;
-    let size = if negative { u64::MAX - word + 1 } else { word };
-    let digits = buffer.format(size);
-    let mut bytes = Vec::from_slice(alloc, if negative { b"-" } else { b" " })?;
-    bytes.extend_from_slice(digits.as_bytes())?;
-    Ok(Text::from_vec(bytes))
-}
-
-// The decimal digits of a number.
-fn unsigned_item(alloc: Global, word: u64) -> Result<Text, NoMemory>
-    ensures bytes { IfOk result (λ text. text ≡ decimal word) }
-    ensures short { IfOk result (λ text. length text ≤ 40) }
-{
-    let mut buffer = Buffer::new();
-    Text::of(alloc, buffer.format(word).as_bytes())
 }
 
 // So many spaces, at most 14.

@@ -6,8 +6,6 @@ pub mod laws;
 mod parts;
 mod queues;
 mod rows;
-#[cfg(test)]
-mod tests;
 mod threads;
 
 use fb_base::NoMemory;

@@ -1,6 +1,7 @@
 ghost use Rattle.std.specs.Prelude.{◌≡◌, ◌+◌, ◌<◌, ◌^◌, ℕ, true, length, drop, is_some, not, ◌==◌, filter, slice_index_or, IfOk, OnErr};
 ghost use Rattle.rt_threads.specs.Lists.{first_of, IsRising};
 ghost use Rattle.rt_threads.specs.Table.{IsReady, is_ready, thread_at, state_at, handle_at, queue_at, with_ready};
+ghost use Rattle.rt_threads.specs.Standing.{Stands};
 ghost use Rattle.rt_threads.specs.Rows.{IsRow, first_table, create, created, given, with_new, next_id, unended, wait, detach, ended, lock, unlock, destroy_mutex, is_wanted, is_condition, wake_first, signal, broadcast, destroy_condition, wait_at, ready_numbers};
 
 use crate::parts::Parts;
@@ -218,9 +219,11 @@ impl Threads {
         self.parts.destroy_condition(t, id, now)
     }
 
-    /// Whether a thread is ready. There is none of a number that was not reached yet.
+    /// Whether a thread is ready. There is none of a number that was not reached yet. Whoever has asked may use the laws of
+    /// `laws`: they ask that a ready thread calls, on a table that stands.
     pub fn ready(&self, t: u32) -> bool
-        ensures { is_ready (state_at self.now t) ≡ result }
+        ensures ready { is_ready (state_at self.now t) ≡ result }
+        ensures stands { Stands self.now }
     {
         match self.parts.thread(t).state {
             State::Ready => true,

@@ -5,8 +5,6 @@ mod field;
 mod inst;
 mod law;
 mod reading;
-#[cfg(test)]
-mod tests;
 mod writing;
 
 pub use field::{Branch, Imm, Jump, Reg, Shift, Upper, WordShift};

@@ -8,7 +8,8 @@ use Rattle.rv_select.specs.declared.starts.Starts.{Starts}
 use Rattle.rv_select.specs.declared.slots.Slots.{Slots}
 use Rattle.rv_select.specs.Places.{Place}
 use Rattle.rv_select.specs.Slots.{place_of, slots_of, FitFrame}
-use Rattle.rv_select.specs.Layout.{size_of, start_of, body_code, placed, entry_code, main_entry, called_entry, after_entry, proc_code, code_from, entries_from, reaches, FitsProc, FitFrom}
+use Rattle.rv_select.specs.Sizes.{size_of}
+use Rattle.rv_select.specs.Layout.{start_of, body_code, placed, entry_code, main_entry, called_entry, after_entry, proc_code, code_from, entries_from, reaches, FitsProc, FitFrom}
 use Rattle.rv_select.specs.Starts.{start_at, starts_from, end_from}
 
 -- The list of starts says where operations begin.

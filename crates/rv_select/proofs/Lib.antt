@@ -17,3 +17,4 @@ pub mod Instructions
 pub mod Images
 pub mod Pieces
 pub mod Beginnings
+pub mod Sizes

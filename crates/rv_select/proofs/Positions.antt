@@ -12,23 +12,11 @@ use Rattle.rv_select.specs.Places.{Place, fetch_code}
 use Rattle.rv_select.specs.Slots.{place_of, slots_of}
 use Rattle.rv_select.specs.Emission.{op_code}
 use Rattle.rv_select.specs.Standing.{StandsAt}
-use Rattle.rv_select.specs.Layout.{lined, placed, size_of, start_of, body_code, entry_code, after_entry, proc_code, code_from, base_from}
+use Rattle.rv_select.specs.Sizes.{size_of}
+use Rattle.rv_select.proofs.Sizes.{size_is}
+use Rattle.rv_select.specs.Layout.{lined, placed, start_of, body_code, entry_code, after_entry, proc_code, code_from, base_from}
 
 -- Where the code of a program stands.
-
-two_behind : (is : List Inst) (a b c : Inst) → length (is ++ (a ∷ (b ∷ []))) ≡ length (is ++ (a ∷ (c ∷ [])))
-two_behind is a b c = length-append is (a ∷ (b ∷ [])) ∙ sym (length-append is (a ∷ (c ∷ [])))
-
--- an operation's code has one size, wherever it stands
-pub size_is : (place : Reg → Place) (start : ℕ → ℕ) (i : ℕ) (op : MidOp) → length (op_code place start i op) ≡ size_of place op
-size_is place start i (Const d n) = refl
-size_is place start i (Copy d a) = refl
-size_is place start i (Both op d a b) = refl
-size_is place start i (Divide op d a b) = refl
-size_is place start i (Runtime n a b c d to) = refl
-size_is place start i (Skip j) = refl
-size_is place start i (Back j) = refl
-size_is place start i (Unless a j) = two_behind (fetch_code 5 (place a)) (Bne 5 0 4) _ _
 
 -- one operation behind the other
 pub start_next : (place : Reg → Place) (k : ℕ) (ops : List LinedOp) (i : ℕ) (op : MidOp) → op_in ops i ≡ Some op → start_of place k ops (suc i) ≡ start_of place k ops i + size_of place op

@@ -16,7 +16,8 @@ use Rattle.rv_select.specs.Standing.{StandsAt}
 use Rattle.rv_select.specs.Relation.{Target, IsNear, Flows, Selected, CarriesOut}
 use Rattle.rv_select.specs.Layout.{placed, start_of, entry_code, after_entry, proc_code, code_from, selected, base_from, base_of, target_of_program, is_near, op_reaches, reaches, FitFrom, Fits}
 use Rattle.rv_select.proofs.Straight.{Straight, halts, onward, straight_goes}
-use Rattle.rv_select.proofs.Positions.{size_is, start_next, start_rising, start_within, placed_length, Has, stands_middle, stands_op, stands_end, body_of, Found, proc_found}
+use Rattle.rv_select.proofs.Positions.{start_next, start_rising, start_within, placed_length, Has, stands_middle, stands_op, stands_end, body_of, Found, proc_found}
+use Rattle.rv_select.proofs.Sizes.{size_is}
 use Rattle.rv_select.proofs.Numbering.{has_slot, live_has_slot, places_apart, is_place}
 
 -- The code of a whole program is selected code.

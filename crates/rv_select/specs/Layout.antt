@@ -13,6 +13,7 @@ use Rattle.rv_select.specs.Places.{Place}
 use Rattle.rv_select.specs.Slots.{place_of, slots_of, FitFrame}
 use Rattle.rv_select.specs.Emission.{op_code}
 use Rattle.rv_select.specs.Relation.{Target}
+use Rattle.rv_select.specs.Sizes.{size_of}
 
 -- instructions of one line
 abbrev pub lined : ℕ → Inst → LinedInst
@@ -24,10 +25,6 @@ placed line is = map (lined line) is
 -- the instructions of an operation, where registers have slots
 abbrev pub op_insts : Slots → (ℕ → ℕ) → ℕ → MidOp → List Inst
 op_insts slots start i op = op_code (place_of slots) start i op
-
--- How many instructions an operation has. It doesn't depend on where it stands.
-abbrev pub size_of : (Reg → Place) → MidOp → ℕ
-size_of place op = length (op_code place (λ j. 0) 0 op)
 
 -- where each operation begins, in a list that begins at k; behind the last one, where it ends
 abbrev pub start_of : (Reg → Place) → ℕ → List LinedOp → ℕ → ℕ

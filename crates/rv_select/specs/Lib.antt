@@ -4,6 +4,7 @@ pub mod Laws
 pub mod Layout
 pub mod Places
 pub mod Relation
+pub mod Sizes
 pub mod Slots
 pub mod Standing
 pub mod Starts

@@ -4,7 +4,7 @@ use Rattle.mid_code.specs.declared.reg.Reg.{Reg}
 use Rattle.mid_code.specs.declared.op.LinedOp.{LinedOp}
 use Rattle.rv_select.specs.declared.starts.Starts.{Starts}
 use Rattle.rv_select.specs.Places.{Place}
-use Rattle.rv_select.specs.Layout.{size_of}
+use Rattle.rv_select.specs.Sizes.{size_of}
 
 -- the first code word of the operation at a position; where there is none, the end
 abbrev pub start_at : Starts → ℕ → ℕ

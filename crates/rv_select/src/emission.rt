@@ -7,6 +7,7 @@ ghost use Rattle.rv_select.specs.Slots.{place_of, last_slot};
 ghost use Rattle.rv_select.specs.Emission as emission;
 ghost use Rattle.rv_select.specs.Starts.{start_at};
 
+use crate::size::move_size;
 use crate::slots::{Slots, slot};
 use crate::starts::{Starts, start};
 use fb_base::NoMemory;
@@ -328,19 +329,7 @@ fn put_unless(
 {
     put_fetch(code, slots, 5, test)?;
     code.push(branch_around(5, 4))?;
-    put_jump(code, from + fetch_size(slots, test) + 1, to)
-}
-
-/// How many instructions it takes to fetch a value.
-fn fetch_size(slots: Slots, from: Reg) -> u64
-    ensures value { result ≡ length (fetch_code 5 (place_of slots from)) }
-    ensures small { result ≤ 3 }
-{
-    if 8 * (slot(slots, from) + 32) < 2048 {
-        1
-    } else {
-        3
-    }
+    put_jump(code, from + move_size(slots, test) + 1, to)
 }
 
 /// The instructions of the operation at position `at`.

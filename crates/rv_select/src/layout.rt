@@ -8,6 +8,7 @@ ghost use Rattle.rv_select.specs.Starts.{start_at, starts_from, end_from};
 
 use crate::emission::put_op;
 use crate::lined::LinedInst;
+use crate::size::op_size;
 use crate::slots::{Slots, fit_frame, slots_for};
 use crate::starts::{Starts, start};
 use fb_base::{NoMemory, Sequence};
@@ -44,18 +45,6 @@ fn insts_of(
     Ok(insts)
 }
 
-/// How many instructions an operation has.
-fn op_size(alloc: Global, slots: Slots, op: MidOp) -> Result<u64, NoMemory>
-    ensures { IfOk result (λ size. size ≡ layout.size_of (place_of slots) op) }
-{
-    let nowhere = Starts {
-        places: Vec::new(alloc),
-        end: 0,
-    };
-    let insts = insts_of(alloc, slots, &nowhere, 0, op)?;
-    Ok(insts.len() as u64)
-}
-
 /// Where the operations of a procedure begin, if the first begins at a code word. Want of memory counts code that is
 /// too long to be addressed.
 fn starts_for(alloc: Global, slots: Slots, base: u32, ops: &[LinedOp]) -> Result<Starts, NoMemory>
@@ -66,7 +55,7 @@ fn starts_for(alloc: Global, slots: Slots, base: u32, ops: &[LinedOp]) -> Result
     let mut end = base;
     for at in ops {
         places.push(end)?;
-        let size = op_size(alloc, slots, at.op)?;
+        let size = op_size(slots, at.op);
         if size >= WORDS - (end as u64).min(WORDS) {
             return Err(NoMemory);
         }

@@ -6,10 +6,9 @@ mod laws;
 mod layout;
 mod lined;
 mod program;
+mod size;
 mod slots;
 mod starts;
-#[cfg(test)]
-mod tests;
 
 pub use laws::selection;
 pub use program::select;

@@ -1,4 +1,5 @@
 pub mod Bytes
 pub mod Pages
 pub mod Plans
+pub mod Programs
 pub mod State

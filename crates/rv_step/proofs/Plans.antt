@@ -1,4 +1,4 @@
-use Rattle.std.proofs.Common.{◌≡◌, ℕ, zero, suc, ◌+◌, ◌-◌, ◌*◌, ◌/◌, ◌%◌, ◌^◌, ◌<◌, Bool, true, false, not, nat_lt, ◌==◌, refl, ap, sym, ◌∙◌, arith, if◌then◌else◌, Result, Ok, Option, Some, subst}
+use Rattle.std.proofs.Common.{◌≡◌, ℕ, zero, suc, ◌+◌, ◌-◌, ◌*◌, ◌/◌, ◌%◌, ◌^◌, ◌<◌, Bool, true, false, not, nat_lt, ◌==◌, refl, ap, sym, ◌∙◌, arith, if◌then◌else◌, Result, Ok, Option, Some, List, subst}
 use Rattle.thread_system.specs.Effect.{Effect, Silent}
 use Rattle.word64.specs.Words.{less_signed, shift_right_signed, extend}
 use Rattle.rv_isa.specs.Words.{signed_imm, signed_upper, word, low_word}
@@ -8,7 +8,8 @@ use Rattle.rv_isa.specs.declared.inst.Inst.{Inst}
 use Rattle.rv_isa.specs.declared.inst.Inst.TheVariants.{Lui, Auipc, Jal, Jalr, Beq, Bne, Blt, Bge, Bltu, Bgeu, Lb, Lh, Lw, Ld, Lbu, Lhu, Lwu, Sb, Sh, Sw, Sd, Addi, Slti, Sltiu, Xori, Ori, Andi, Slli, Srli, Srai, Add, Sub, Sll, Slt, Sltu, Xor, Srl, Sra, Or, And, Mul, Mulh, Mulhsu, Mulhu, Div, Divu, Rem, Remu, Addiw, Slliw, Srliw, Sraiw, Addw, Subw, Sllw, Srlw, Sraw, Mulw, Divw, Divuw, Remw, Remuw, Fence, Ecall, Ebreak}
 use Rattle.rv_step.specs.declared.plan.Plan.{Plan}
 use Rattle.rv_step.specs.Plan.{plan_of, carried, branch_plan}
-use Rattle.rv_step.specs.Step.{passed, StepsTo, NoCall, CallsFor, CallsAt}
+use Rattle.rv_step.specs.Access.{Access}
+use Rattle.rv_step.specs.Step.{passed, StepsTo, Accesses, NoCall, CallsFor, CallsAt}
 use Rattle.thread_system.specs.Memory.{Memory}
 use Rattle.fb_base.specs.declared.memory.NoMemory.{NoMemory}
 use Rattle.rv_step.specs.declared.stop.Stop.{Stop}
@@ -89,6 +90,14 @@ asked_by h c m false e = rw e (refl, record { number_is = refl; args_are = refl;
 pub asked : (h : Machine) (c : Cpu) (m : Memory) → StepsTo (asks h c) c (passed c) m m (Ok stops.Call)
 asked h c m = asked_by h c m (is_trap_call (c.regs 17) (c.regs 10)) refl
 
+-- a call makes no access
+none_by : (h : Machine) (c : Cpu) (at : ℕ) (seen : Option (List Access)) (t : Bool) → is_trap_call (c.regs 17) (c.regs 10) ≡ t → Accesses (asks h c) at seen seen (Ok stops.Call)
+none_by h c at seen true e = rw e refl
+none_by h c at seen false e = rw e refl
+
+pub asks_none : (h : Machine) (c : Cpu) (at : ℕ) (seen : Option (List Access)) → Accesses (asks h c) at seen seen (Ok stops.Call)
+asks_none h c at seen = none_by h c at seen (is_trap_call (c.regs 17) (c.regs 10)) refl
+
 pub step_is : (h : Machine) (old new : Cpu) (m after : Memory) (r : Result Stop NoMemory) (o : Option Inst) (i : Inst) (p : Plan) → o ≡ Some i → IsInst i → p ≡ plan_of old i → StepsTo (carried h old p) old new m after r → StepsTo (acts h old o) old new m after r
 step_is h old new m after r o i p eo g ep s =
     let planned : carried h old p ≡ act h old i = ap (carried h old) ep ∙ sym (act_is h old i g) in
@@ -97,3 +106,8 @@ step_is h old new m after r o i p eo g ep s =
 pub calls_at : (old : Cpu) (r : Result Stop NoMemory) (o : Option Inst) (i : Inst) (p : Plan) → o ≡ Some i → p ≡ plan_of old i → CallsBy p r → CallsAt o r
 calls_at old r o i p eo ep given =
     subst (λ k. CallsAt k r) (sym eo) (calls_are old i r (subst (λ k. CallsBy k r) ep given))
+
+pub step_sees : (h : Machine) (old : Cpu) (at : ℕ) (before after : Option (List Access)) (r : Result Stop NoMemory) (o : Option Inst) (i : Inst) (p : Plan) → o ≡ Some i → IsInst i → p ≡ plan_of old i → Accesses (carried h old p) at before after r → Accesses (acts h old o) at before after r
+step_sees h old at before after r o i p eo g ep s =
+    let planned : carried h old p ≡ act h old i = ap (carried h old) ep ∙ sym (act_is h old i g) in
+    subst (λ k. Accesses (acts h old k) at before after r) (sym eo) (subst (λ k. Accesses k at before after r) planned s)

@@ -1,4 +1,4 @@
-use Rattle.std.specs.Prelude.{◌≡◌, ℕ, ◌⊎◌, Option, Some, None, Result, Ok, Err}
+use Rattle.std.specs.Prelude.{◌≡◌, ℕ, ◌⊎◌, List, [], ◌∷◌, ◌++◌, Option, Some, None, is_some, Result, Ok, Err}
 use Rattle.thread_system.specs.Memory.{Memory, read, write}
 use Rattle.rv_step.specs.declared.bus.BusErr.{BusErr}
 use Rattle.rv_step.specs.declared.bus.BusErr.TheVariants as faults
@@ -19,3 +19,19 @@ abbrev pub IsStore : {A : Type 0} → Memory → Memory → (addr width value : 
 IsStore m after addr width value (Ok done) = write m addr width value ≡ Some after
 IsStore m after addr width value (Err faults.Unmapped) = (write m addr width value ≡ None) × (after ≡ m)
 IsStore m after addr width value (Err faults.NoMemory) = after ≡ m
+
+-- An access to memory: a load of so many bytes, or a store of a value in them, with the place of its instruction.
+pub data Access : Type 0 where
+  Got : (addr width at : ℕ) → Access
+  Put : (addr width value at : ℕ) → Access
+
+-- the accesses before and after one more, where they are told
+abbrev pub Adds : Access → Option (List Access) → Option (List Access) → Type 0
+Adds access None after = after ≡ None
+Adds access (Some before) after = after ≡ Some (before ++ access ∷ [])
+
+-- What is seen of an access: it stands last, also where it isn't allowed. After want of memory it may or may not.
+abbrev pub Sees : {A : Type 0} → Access → Option (List Access) → Option (List Access) → Result A BusErr → Type 0
+Sees access before after (Ok done) = Adds access before after
+Sees access before after (Err faults.Unmapped) = Adds access before after
+Sees access before after (Err faults.NoMemory) = is_some after ≡ is_some before

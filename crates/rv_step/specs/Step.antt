@@ -1,4 +1,4 @@
-use Rattle.std.specs.Prelude.{◌≡◌, ℕ, ◌+◌, true, List, [], ◌∷◌, Option, Some, None, Result, Ok, Err}
+use Rattle.std.specs.Prelude.{◌≡◌, ℕ, ◌+◌, true, List, [], ◌∷◌, Option, Some, None, is_some, Result, Ok, Err}
 use Rattle.thread_system.specs.Effect.{Effect, Silent, Reads, Writes, Turn, Calls, Traps}
 use Rattle.thread_system.specs.Memory.{Memory, read, write}
 use Rattle.rv_isa.specs.Machine.{Cpu, with_reg, is_trap_call}
@@ -7,6 +7,7 @@ use Rattle.rv_isa.specs.declared.inst.Inst.TheVariants.{Lui, Auipc, Jal, Jalr, B
 use Rattle.fb_base.specs.declared.fault.TrapKind.{TrapKind}
 use Rattle.fb_base.specs.declared.fault.TrapKind.TheVariants as kinds
 use Rattle.fb_base.specs.declared.memory.NoMemory.{NoMemory}
+use Rattle.rv_step.specs.Access.{Access, Got, Put, Adds}
 use Rattle.rv_step.specs.declared.stop.Stop.{Stop}
 use Rattle.rv_step.specs.declared.stop.Stop.TheVariants as stops
 
@@ -88,3 +89,14 @@ CallsFor i r = NoCall r
 abbrev pub CallsAt : Option Inst → Result Stop NoMemory → Type 0
 CallsAt None r = NoCall r
 CallsAt (Some i) r = CallsFor i r
+
+-- Which accesses a step makes, where the machine's step has an effect: the one that this effect is, and none at any
+-- other effect. After want of memory an access may stand there or not.
+abbrev pub Accesses : Effect Cpu → (at : ℕ) → (before after : Option (List Access)) → Result Stop NoMemory → Type 0
+Accesses effect at before after (Err e) = is_some after ≡ is_some before
+Accesses (Silent then) at before after (Ok stop) = after ≡ before
+Accesses (Reads addr width line then) at before after (Ok stop) = Adds (Got addr width at) before after
+Accesses (Writes addr width value line then) at before after (Ok stop) = Adds (Put addr width value at) before after
+Accesses (Turn line then) at before after (Ok stop) = after ≡ before
+Accesses (Calls number args line then) at before after (Ok stop) = after ≡ before
+Accesses (Traps number line) at before after (Ok stop) = after ≡ before

@@ -58,7 +58,7 @@ impl Cpu {
     }
 
     /// The address of the next instruction.
-    #[inline]
+    #[inline(always)]
     pub fn pc(&self) -> u64
         ensures { result ≡ (cpu_of self.now).pc }
     {
@@ -66,7 +66,7 @@ impl Cpu {
     }
 
     /// The value of a register; register 0 reads 0.
-    #[inline]
+    #[inline(always)]
     pub fn register(&self, r: Reg) -> u64
         ensures { result ≡ reg_at (cpu_of self.now).regs r }
     {
@@ -74,7 +74,7 @@ impl Cpu {
     }
 
     /// Puts a value into a register; what is written to register 0 is dropped.
-    #[inline]
+    #[inline(always)]
     pub fn set_register(&mut self, r: Reg, value: u64)
         ensures state { cpu_of self.new ≡ record (cpu_of self.old) { regs = with_reg (cpu_of self.old).regs r value } }
         ensures low { self.new.low ≡ self.old.low }
@@ -86,7 +86,7 @@ impl Cpu {
     }
 
     /// Whether so many bytes lie in the own stack.
-    #[inline]
+    #[inline(always)]
     pub(crate) fn holds(&self, addr: u64, width: u8) -> bool
         requires { IsWidth width }
         ensures test { (h : isa.Machine) → h.low ≡ self.now.low → isa.on_stack h addr width ≡ result }
@@ -97,7 +97,7 @@ impl Cpu {
     }
 
     /// Whether an access begins in the own stack.
-    #[inline]
+    #[inline(always)]
     pub(crate) fn reaches(&self, addr: u64) -> bool
         ensures { (h : isa.Machine) → h.low ≡ self.now.low → isa.in_stack h addr ≡ result }
     {
@@ -105,7 +105,7 @@ impl Cpu {
     }
 
     /// The number of so many bytes of the own stack.
-    #[inline]
+    #[inline(always)]
     pub(crate) fn load(&self, addr: u64, width: u8) -> u64
         requires width { IsWidth width }
         requires from { self.now.low ≤ addr }
@@ -116,7 +116,7 @@ impl Cpu {
     }
 
     /// Stores the low bytes of a value in the own stack. The error is want of memory, and all is then as before.
-    #[inline]
+    #[inline(always)]
     pub(crate) fn store(&mut self, addr: u64, width: u8, value: u64) -> Result<(), NoMemory>
         requires width { IsWidth width }
         requires from { self.old.low ≤ addr }
@@ -129,7 +129,7 @@ impl Cpu {
     }
 
     /// Goes on at the next instruction.
-    #[inline]
+    #[inline(always)]
     pub(crate) fn pass(&mut self)
         requires { self.old.pc + 4 < 2 ^ 64 }
         ensures state { cpu_of self.new ≡ passed (cpu_of self.old) }
@@ -139,7 +139,7 @@ impl Cpu {
     }
 
     /// Puts a value into a register and goes on at the next instruction.
-    #[inline]
+    #[inline(always)]
     pub(crate) fn finish(&mut self, rd: Reg, value: u64)
         requires { self.old.pc + 4 < 2 ^ 64 }
         ensures state { cpu_of self.new ≡ isa.moves_on (cpu_of self.old) rd value }
@@ -150,7 +150,7 @@ impl Cpu {
     }
 
     /// Goes on at an address, with the next instruction's in a register.
-    #[inline]
+    #[inline(always)]
     pub(crate) fn go(&mut self, rd: Reg, target: u64)
         requires { self.old.pc + 4 < 2 ^ 64 }
         ensures state { cpu_of self.new ≡ record { pc = target; regs = isa.with_reg (cpu_of self.old).regs rd ((cpu_of self.old).pc + 4); bytes = (cpu_of self.old).bytes } }

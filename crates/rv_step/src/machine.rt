@@ -1,45 +1,30 @@
-ghost use Rattle.std.specs.Prelude.{◌≡◌, ℕ, ◌+◌, ◌/◌, ◌%◌, ◌^◌, ◌<◌, ◌==◌, if◌then◌else◌, None, IsSome, IfSome, length, slice_get, option_and_then};
+ghost use Rattle.std.specs.Prelude.{◌≡◌, ℕ, ◌+◌, ◌^◌, ◌<◌, List, Option};
+ghost use Rattle.rv_step.specs.Access.{Access};
 ghost use Rattle.thread_system.specs.Memory.{Memory};
-ghost use Rattle.rv_isa.specs.Encoding.{inst_of, IsInst};
 ghost use Rattle.rv_isa.specs.Machine as isa;
 ghost use Rattle.rv_step.specs.State.{cpu_of, machine_of};
 ghost use Rattle.rv_step.specs.Plan.{carried, datum_width, datum_sign};
-ghost use Rattle.rv_step.specs.Step.{StepsTo, NoCall, CallsAt};
+ghost use Rattle.rv_step.specs.Step.{StepsTo, Accesses, NoCall, CallsAt};
 ghost use Rattle.rv_step.specs.Calls.{CallsBy};
 
 use crate::bus::{Bus, BusErr};
 use crate::cpu::Cpu;
 use crate::plan::{Datum, Plan, plan_for};
+use crate::program::Program;
 use crate::stop::Stop;
 use fb_base::{NoMemory, TrapKind};
-use fb_image::Image;
-use rv_isa::{Inst, Reg, decode};
+use rv_isa::Reg;
 
 const BAD_CODE: Result<Stop, NoMemory> = Ok(Stop::Trap(TrapKind::BadCode));
 
 const BAD_POINTER: Result<Stop, NoMemory> = Ok(Stop::Trap(TrapKind::BadPointer));
 
-// The instruction at an address.
-#[inline]
-fn fetch(code: &[u32], pc: u64) -> Option<Inst>
-    ensures value { (if pc % 4 == 0 then option_and_then inst_of (slice_get code.now (pc / 4)) else None) ≡ result }
-    ensures within { IsSome result → pc / 4 < length code.now }
-    ensures ranges { IfSome result (λ i. IsInst i) }
-{
-    if pc % 4 != 0 {
-        return None;
-    }
-    match code.get((pc / 4) as usize) {
-        Some(word) => decode(*word),
-        None => None,
-    }
-}
-
 // Puts a value into a register and goes on.
-#[inline]
+#[inline(always)]
 fn put(cpu: &mut Cpu, rd: Reg, value: u64) -> Result<Stop, NoMemory>
     requires { cpu.old.pc + 4 < 2 ^ 64 }
     ensures steps { (m : Memory) → StepsTo (isa.writes (cpu_of cpu.old) rd value) (cpu_of cpu.old) (cpu_of cpu.new) m m result }
+    ensures seen { (at : ℕ) (seen : Option (List Access)) → Accesses (isa.writes (cpu_of cpu.old) rd value) at seen seen result }
     ensures call { NoCall result }
     ensures low { cpu.new.low ≡ cpu.old.low }
 {
@@ -48,7 +33,7 @@ fn put(cpu: &mut Cpu, rd: Reg, value: u64) -> Result<Stop, NoMemory>
 }
 
 // A load of a number.
-#[inline]
+#[inline(always)]
 fn load<B: Bus>(
     cpu: &mut Cpu,
     bus: &mut B,
@@ -58,6 +43,8 @@ fn load<B: Bus>(
 ) -> Result<Stop, NoMemory>
     requires { cpu.old.pc + 4 < 2 ^ 64 }
     ensures steps { (h : isa.Machine) → h.low ≡ cpu.old.low → StepsTo (isa.loads h (cpu_of cpu.old) (datum_width datum) (datum_sign datum) rd addr) (cpu_of cpu.old) (cpu_of cpu.new) (B.mem bus.old) (B.mem bus.new) result }
+    ensures seen { (h : isa.Machine) → h.low ≡ cpu.old.low → Accesses (isa.loads h (cpu_of cpu.old) (datum_width datum) (datum_sign datum) rd addr) (B.at bus.old) (B.seen bus.old) (B.seen bus.new) result }
+    ensures at { B.at bus.new ≡ B.at bus.old }
     ensures call { NoCall result }
     ensures low { cpu.new.low ≡ cpu.old.low }
 {
@@ -81,7 +68,7 @@ fn load<B: Bus>(
 }
 
 // A store of a number.
-#[inline]
+#[inline(always)]
 fn store<B: Bus>(
     cpu: &mut Cpu,
     bus: &mut B,
@@ -91,6 +78,8 @@ fn store<B: Bus>(
 ) -> Result<Stop, NoMemory>
     requires { cpu.old.pc + 4 < 2 ^ 64 }
     ensures steps { (h : isa.Machine) → h.low ≡ cpu.old.low → StepsTo (isa.stores h (cpu_of cpu.old) (datum_width datum) value addr) (cpu_of cpu.old) (cpu_of cpu.new) (B.mem bus.old) (B.mem bus.new) result }
+    ensures seen { (h : isa.Machine) → h.low ≡ cpu.old.low → Accesses (isa.stores h (cpu_of cpu.old) (datum_width datum) value addr) (B.at bus.old) (B.seen bus.old) (B.seen bus.new) result }
+    ensures at { B.at bus.new ≡ B.at bus.old }
     ensures call { NoCall result }
     ensures low { cpu.new.low ≡ cpu.old.low }
 {
@@ -114,10 +103,11 @@ fn store<B: Bus>(
 }
 
 // A jump, which is a turn or not.
-#[inline]
+#[inline(always)]
 fn jump(cpu: &mut Cpu, is_turn: bool, rd: Reg, target: u64) -> Result<Stop, NoMemory>
     requires { cpu.old.pc + 4 < 2 ^ 64 }
     ensures steps { (h : isa.Machine) (m : Memory) → StepsTo (isa.jumps h (cpu_of cpu.old) is_turn rd target) (cpu_of cpu.old) (cpu_of cpu.new) m m result }
+    ensures seen { (h : isa.Machine) (at : ℕ) (seen : Option (List Access)) → Accesses (isa.jumps h (cpu_of cpu.old) is_turn rd target) at seen seen result }
     ensures call { NoCall result }
     ensures low { cpu.new.low ≡ cpu.old.low }
 {
@@ -134,10 +124,12 @@ fn jump(cpu: &mut Cpu, is_turn: bool, rd: Reg, target: u64) -> Result<Stop, NoMe
 }
 
 // Does what is planned.
-#[inline]
+#[inline(always)]
 fn carry_out<B: Bus>(cpu: &mut Cpu, bus: &mut B, plan: Plan) -> Result<Stop, NoMemory>
     requires { cpu.old.pc + 4 < 2 ^ 64 }
     ensures steps { (h : isa.Machine) → h.low ≡ cpu.old.low → StepsTo (carried h (cpu_of cpu.old) plan) (cpu_of cpu.old) (cpu_of cpu.new) (B.mem bus.old) (B.mem bus.new) result }
+    ensures seen { (h : isa.Machine) → h.low ≡ cpu.old.low → Accesses (carried h (cpu_of cpu.old) plan) (B.at bus.old) (B.seen bus.old) (B.seen bus.new) result }
+    ensures at { B.at bus.new ≡ B.at bus.old }
     ensures call { CallsBy plan result }
     ensures low { cpu.new.low ≡ cpu.old.low }
 {
@@ -163,7 +155,8 @@ fn carry_out<B: Bus>(cpu: &mut Cpu, bus: &mut B, plan: Plan) -> Result<Stop, NoM
 }
 
 /// One step of a thread of an image: what the instruction at its pc does (RISC-V Instruction Set Manual, volume I,
-/// RV64I and M), with at most one access to the bus.
+/// RV64I and M). It makes an access to the bus exactly where that is a load or a store outside of the own stack, and
+/// then this one.
 ///
 /// - A turn is a JALR, a JAL whose register isn't register 0, or a JAL or taken branch whose target isn't above its
 ///   own address.
@@ -174,13 +167,15 @@ fn carry_out<B: Bus>(cpu: &mut Cpu, bus: &mut B, plan: Plan) -> Result<Stop, NoM
 ///   and the bus has no such bytes.
 ///
 /// The error is want of memory. After it, and after a trap, thread and bus are as before.
-#[inline]
-pub fn step<B: Bus>(image: &Image, cpu: &mut Cpu, bus: &mut B) -> Result<Stop, NoMemory>
-    ensures steps { StepsTo (isa.machine_step (machine_of image.now cpu.old.low) (cpu_of cpu.old)) (cpu_of cpu.old) (cpu_of cpu.new) (B.mem bus.old) (B.mem bus.new) result }
-    ensures call { CallsAt (isa.fetched (machine_of image.now cpu.old.low) (cpu_of cpu.old).pc) result }
+#[inline(always)]
+pub fn step<B: Bus>(program: &Program, cpu: &mut Cpu, bus: &mut B) -> Result<Stop, NoMemory>
+    ensures steps { StepsTo (isa.machine_step (machine_of program.now cpu.old.low) (cpu_of cpu.old)) (cpu_of cpu.old) (cpu_of cpu.new) (B.mem bus.old) (B.mem bus.new) result }
+    ensures seen { Accesses (isa.machine_step (machine_of program.now cpu.old.low) (cpu_of cpu.old)) (B.at bus.old) (B.seen bus.old) (B.seen bus.new) result }
+    ensures at { B.at bus.new ≡ B.at bus.old }
+    ensures call { CallsAt (isa.fetched (machine_of program.now cpu.old.low) (cpu_of cpu.old).pc) result }
     ensures low { cpu.new.low ≡ cpu.old.low }
 {
-    match fetch(image.code(), cpu.pc()) {
+    match program.fetch(cpu.pc()) {
         Some(inst) => {
             let planned = plan_for(cpu, inst);
             carry_out(cpu, bus, planned)

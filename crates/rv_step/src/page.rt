@@ -60,7 +60,7 @@ impl Page {
         }
     }
 
-    #[inline]
+    #[inline(always)]
     fn one(&self, k: usize) -> u64
         requires { k < length self.now }
         ensures value { result ≡ loaded (byte_in self.now) k 1 }
@@ -69,7 +69,7 @@ impl Page {
         self.bytes[k] as u64
     }
 
-    #[inline]
+    #[inline(always)]
     fn two(&self, k: usize) -> u64
         requires kept { k + 2 ≤ length self.now }
         requires within { k + 2 ≤ 2 ^ 16 }
@@ -79,7 +79,7 @@ impl Page {
         self.one(k) + 0x100 * self.one(k + 1)
     }
 
-    #[inline]
+    #[inline(always)]
     fn four(&self, k: usize) -> u64
         requires kept { k + 4 ≤ length self.now }
         requires within { k + 4 ≤ 2 ^ 16 }
@@ -89,7 +89,7 @@ impl Page {
         self.two(k) + 0x1_0000 * self.two(k + 2)
     }
 
-    #[inline]
+    #[inline(always)]
     fn eight(&self, k: usize) -> u64
         requires kept { k + 8 ≤ length self.now }
         requires within { k + 8 ≤ 2 ^ 16 }
@@ -99,7 +99,7 @@ impl Page {
     }
 
     /// The number of so many bytes, the lowest first, if they are all kept.
-    #[inline]
+    #[inline(always)]
     pub(crate) fn load(&self, k: usize, width: u8) -> Option<u64>
         requires width { IsWidth width }
         requires at { k < 2 ^ 16 }
@@ -132,7 +132,7 @@ impl Page {
     }
 
     /// Stores the low bytes of a value if they are all kept, and says whether it did.
-    #[inline]
+    #[inline(always)]
     pub(crate) fn store(&mut self, k: usize, width: u8, value: u64) -> bool
         requires width { width ≤ 8 }
         requires at { k < 2 ^ 16 }

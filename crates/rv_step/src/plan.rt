@@ -27,7 +27,7 @@ pub(crate) enum Datum {
 
 impl Datum {
     /// How many bytes it has.
-    #[inline]
+    #[inline(always)]
     pub(crate) fn width(self) -> u8
         ensures value { result ≡ datum_width self }
         ensures is_width { IsWidth result }
@@ -41,7 +41,7 @@ impl Datum {
     }
 
     /// The word of its bytes, extended by its sign or by zeros.
-    #[inline]
+    #[inline(always)]
     pub(crate) fn extended(self, bytes: u64) -> u64
         ensures { result ≡ extend (datum_width self) (datum_sign self) bytes }
     {
@@ -78,7 +78,7 @@ pub(crate) enum Plan {
 }
 
 // The address of a load, a store or a JALR.
-#[inline]
+#[inline(always)]
 fn address(cpu: &Cpu, rs1: Reg, imm: Imm) -> u64
     ensures { result ≡ isa.address (cpu_of cpu.now) rs1 imm }
 {
@@ -86,35 +86,35 @@ fn address(cpu: &Cpu, rs1: Reg, imm: Imm) -> u64
 }
 
 // Whether going to an address isn't going ahead.
-#[inline]
+#[inline(always)]
 fn is_back(cpu: &Cpu, target: u64) -> bool
     ensures { result ≡ isa.is_back (cpu_of cpu.now) target }
 {
     !less_u(cpu.pc(), target)
 }
 
-#[inline]
+#[inline(always)]
 fn equal(cpu: &Cpu, rs1: Reg, rs2: Reg) -> bool
     ensures { result ≡ (isa.reg_at (cpu_of cpu.now).regs rs1 == isa.reg_at (cpu_of cpu.now).regs rs2) }
 {
     cpu.register(rs1) == cpu.register(rs2)
 }
 
-#[inline]
+#[inline(always)]
 fn below_s(cpu: &Cpu, rs1: Reg, rs2: Reg) -> bool
     ensures { result ≡ less_signed (isa.reg_at (cpu_of cpu.now).regs rs1) (isa.reg_at (cpu_of cpu.now).regs rs2) }
 {
     less_s(cpu.register(rs1), cpu.register(rs2))
 }
 
-#[inline]
+#[inline(always)]
 fn below_u(cpu: &Cpu, rs1: Reg, rs2: Reg) -> bool
     ensures { result ≡ nat_lt (isa.reg_at (cpu_of cpu.now).regs rs1) (isa.reg_at (cpu_of cpu.now).regs rs2) }
 {
     less_u(cpu.register(rs1), cpu.register(rs2))
 }
 
-#[inline]
+#[inline(always)]
 fn branch(cpu: &Cpu, taken: bool, offset: Branch) -> Plan
     ensures { result ≡ branch_plan (cpu_of cpu.now) taken offset }
 {
@@ -131,7 +131,7 @@ fn branch(cpu: &Cpu, taken: bool, offset: Branch) -> Plan
 }
 
 // Whether a register keeps what is written to it, or else the other.
-#[inline]
+#[inline(always)]
 fn keeps_or(rd: Reg, other: bool) -> bool
     ensures { result ≡ (not (rd == 0) || other) }
 {
@@ -139,7 +139,7 @@ fn keeps_or(rd: Reg, other: bool) -> bool
 }
 
 // A JAL, which is a turn where it keeps the place to return to, or isn't ahead.
-#[inline]
+#[inline(always)]
 fn link(cpu: &Cpu, rd: Reg, offset: Jump) -> Plan
     ensures { result ≡ link_plan (cpu_of cpu.now) rd offset }
 {
@@ -151,28 +151,28 @@ fn link(cpu: &Cpu, rd: Reg, offset: Jump) -> Plan
     }
 }
 
-#[inline]
+#[inline(always)]
 fn value(rd: Reg, value: u64) -> Plan
     ensures { result ≡ Plan.Value rd value }
 {
     Plan::Value { rd, value }
 }
 
-#[inline]
+#[inline(always)]
 fn load(datum: Datum, rd: Reg, addr: u64) -> Plan
     ensures { result ≡ Plan.Load datum rd addr }
 {
     Plan::Load { datum, rd, addr }
 }
 
-#[inline]
+#[inline(always)]
 fn store(datum: Datum, value: u64, addr: u64) -> Plan
     ensures { result ≡ Plan.Store datum value addr }
 {
     Plan::Store { datum, value, addr }
 }
 
-#[inline]
+#[inline(always)]
 fn jump(rd: Reg, target: u64) -> Plan
     ensures { result ≡ Plan.Jump true rd target }
 {
@@ -184,7 +184,7 @@ fn jump(rd: Reg, target: u64) -> Plan
 }
 
 /// What an instruction is going to do.
-#[inline]
+#[inline(always)]
 #[tactic(auto, unfolding(crate::specs::Plan::plan_of))]
 pub(crate) fn plan_for(cpu: &Cpu, inst: Inst) -> Plan
     ensures { result ≡ plan_of (cpu_of cpu.now) inst }

@@ -118,7 +118,7 @@ impl Stack {
     }
 
     /// The number of so many bytes, the lowest first.
-    #[inline]
+    #[inline(always)]
     pub(crate) fn load(&self, o: u64, width: u8) -> u64
         requires width { IsWidth width }
         requires within { o + width ≤ 2 ^ 32 }
@@ -133,7 +133,7 @@ impl Stack {
     }
 
     // Stores the low bytes of a value if their page keeps them all, and says whether it did.
-    #[inline]
+    #[inline(always)]
     fn put(&mut self, o: u64, width: u8, value: u64) -> bool
         requires at { o < 2 ^ 32 }
         requires least { 0 < width }
@@ -190,7 +190,7 @@ impl Stack {
     }
 
     /// Stores the low bytes of a value. The error is want of memory, and the bytes are then as before.
-    #[inline]
+    #[inline(always)]
     pub(crate) fn store(&mut self, o: u64, width: u8, value: u64) -> Result<(), NoMemory>
         requires width { IsWidth width }
         requires within { o + width ≤ 2 ^ 32 }

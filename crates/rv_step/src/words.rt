@@ -5,7 +5,7 @@ use rv_isa::{Branch, Imm, Jump, Upper};
 use word64::{Kind, div_s, narrow, rem_s};
 
 /// An immediate, extended by its sign.
-#[inline]
+#[inline(always)]
 pub(crate) fn signed_imm(imm: Imm) -> u64
     ensures { result ≡ words.signed_imm imm }
 {
@@ -18,7 +18,7 @@ pub(crate) fn signed_imm(imm: Imm) -> u64
 }
 
 /// An upper immediate above its twelve zeros, extended by its sign.
-#[inline]
+#[inline(always)]
 pub(crate) fn signed_upper(imm: Upper) -> u64
     ensures { result ≡ words.signed_upper imm }
 {
@@ -31,7 +31,7 @@ pub(crate) fn signed_upper(imm: Upper) -> u64
 }
 
 /// The offset of a branch in bytes, extended by its sign.
-#[inline]
+#[inline(always)]
 pub(crate) fn signed_branch(offset: Branch) -> u64
     ensures { result ≡ words.signed_branch offset }
 {
@@ -44,7 +44,7 @@ pub(crate) fn signed_branch(offset: Branch) -> u64
 }
 
 /// The offset of a jump in bytes, extended by its sign.
-#[inline]
+#[inline(always)]
 pub(crate) fn signed_jump(offset: Jump) -> u64
     ensures { result ≡ words.signed_jump offset }
 {
@@ -57,7 +57,7 @@ pub(crate) fn signed_jump(offset: Jump) -> u64
 }
 
 /// The low 32 bits, extended by their sign.
-#[inline]
+#[inline(always)]
 pub(crate) fn word(value: u64) -> u64
     ensures { result ≡ words.word value }
 {
@@ -65,7 +65,7 @@ pub(crate) fn word(value: u64) -> u64
 }
 
 /// The low 32 bits.
-#[inline]
+#[inline(always)]
 pub(crate) fn low_word(value: u64) -> u64
     ensures { result ≡ words.low_word value }
 {
@@ -73,7 +73,7 @@ pub(crate) fn low_word(value: u64) -> u64
 }
 
 /// 1 for true and 0 for false.
-#[inline]
+#[inline(always)]
 pub(crate) fn truth(b: bool) -> u64
     ensures { result ≡ words.truth b }
 {
@@ -81,7 +81,7 @@ pub(crate) fn truth(b: bool) -> u64
 }
 
 /// The signed quotient; all ones for a zero divisor.
-#[inline]
+#[inline(always)]
 pub(crate) fn quotient_signed(a: u64, b: u64) -> u64
     ensures { result ≡ words.quotient_signed a b }
 {
@@ -89,7 +89,7 @@ pub(crate) fn quotient_signed(a: u64, b: u64) -> u64
 }
 
 /// The signed remainder; the dividend for a zero divisor.
-#[inline]
+#[inline(always)]
 pub(crate) fn remainder_signed(a: u64, b: u64) -> u64
     ensures { result ≡ words.remainder_signed a b }
 {
@@ -97,7 +97,7 @@ pub(crate) fn remainder_signed(a: u64, b: u64) -> u64
 }
 
 /// The quotient; all ones for a zero divisor.
-#[inline]
+#[inline(always)]
 pub(crate) fn quotient(a: u64, b: u64) -> u64
     ensures { result ≡ words.quotient a b }
 {
@@ -105,7 +105,7 @@ pub(crate) fn quotient(a: u64, b: u64) -> u64
 }
 
 /// The remainder; the dividend for a zero divisor.
-#[inline]
+#[inline(always)]
 pub(crate) fn remainder(a: u64, b: u64) -> u64
     ensures { result ≡ words.remainder a b }
 {
@@ -113,7 +113,7 @@ pub(crate) fn remainder(a: u64, b: u64) -> u64
 }
 
 /// The high 64 bits of the product of two signed values.
-#[inline]
+#[inline(always)]
 pub(crate) fn high_signed(a: u64, b: u64) -> u64
     ensures { result ≡ words.high_signed a b }
 {
@@ -122,7 +122,7 @@ pub(crate) fn high_signed(a: u64, b: u64) -> u64
 }
 
 /// The high 64 bits of the product of a signed value and an unsigned one.
-#[inline]
+#[inline(always)]
 pub(crate) fn high_mixed(a: u64, b: u64) -> u64
     ensures { result ≡ words.high_mixed a b }
 {
@@ -131,7 +131,7 @@ pub(crate) fn high_mixed(a: u64, b: u64) -> u64
 }
 
 /// The high 64 bits of the product of two unsigned values.
-#[inline]
+#[inline(always)]
 pub(crate) fn high_unsigned(a: u64, b: u64) -> u64
     ensures { result ≡ words.high_unsigned a b }
 {

@@ -3,9 +3,9 @@ ghost use Rattle.std.specs.Prelude.{◌≡◌};
 use crate::forms::{Form, form_of};
 use crate::spelling::text_of;
 use fb_base::TrapKind;
-use fb_image::{Image, read};
+use fb_image::read;
 use rv_isa::{Reg, decode, encode};
-use rv_step::{Bus, BusErr, Cpu, Stop, step};
+use rv_step::{Bus, BusErr, Cpu, Program, Stop, step};
 use std::alloc::{AllocError, Global};
 
 // No memory but the own stack.
@@ -17,6 +17,10 @@ impl Bus for Nothing {
 
     ghost mem = { λ nothing a. None };
 
+    ghost seen = { λ nothing. None };
+
+    ghost at = { λ nothing. 0 };
+
     fn load(&mut self, _addr: u64, _width: u8) -> Result<u64, BusErr> {
         Err(BusErr::Unmapped)
     }
@@ -26,8 +30,8 @@ impl Bus for Nothing {
     }
 }
 
-// An image of four code words, with one procedure, the shape of an empty place, and one line.
-fn image_of(alloc: Global, code: [u32; 4]) -> Option<Image> {
+// A program of four code words, with one procedure, the shape of an empty place, and one line.
+fn program_of(alloc: Global, code: [u32; 4]) -> Option<Program> {
     let mut bytes: [u8; 68] = [
         0x46, 0x42, 0x52, 0x56, 1, 0, 0, 0, 4, 0, 0, 0, 1, 0, 0, 0, 1, 0, 0, 0, 0, 0, 0, 0, 1, 0,
         0, 0, 0, 0, 0, 0, 0, 0, 0, 0, 0, 0, 0, 0, 0, 0, 0, 0, 0, 0, 0, 0, 0, 0, 0, 0, 1, 0, 0, 0,
@@ -40,7 +44,7 @@ fn image_of(alloc: Global, code: [u32; 4]) -> Option<Image> {
         bytes[30 + 4 * i] = word[2];
         bytes[31 + 4 * i] = word[3];
     }
-    read(alloc, &bytes).ok()
+    Program::new(alloc, read(alloc, &bytes).ok()?).ok()
 }
 
 fn hexadecimal(text: &str) -> Option<u64> {
@@ -68,19 +72,19 @@ pub fn invalid_row(alloc: Global, line: &str) -> Result<bool, AllocError> {
     let Some(word) = line.split('\t').next().and_then(word_in) else {
         return Ok(false);
     };
-    let Some(image) = image_of(alloc, [word, 0, 0, 0]) else {
+    let Some(program) = program_of(alloc, [word, 0, 0, 0]) else {
         return Ok(false);
     };
     let mut cpu = Cpu::new(alloc, 0, 0, 0);
     let mut bus = Nothing;
-    let stop = step(&image, &mut cpu, &mut bus);
+    let stop = step(&program, &mut cpu, &mut bus);
     Ok(decode(word).is_none() && stop == Ok(Stop::Trap(TrapKind::BadCode)))
 }
 
 // A thread over some code, with its operands in registers 1 and 2, all ones in register 4, and so many steps done,
 // each of them by a copy of the thread.
 fn ran(alloc: Global, code: [u32; 4], first: u64, second: u64, steps: u8) -> Option<Cpu> {
-    let image = image_of(alloc, code)?;
+    let program = program_of(alloc, code)?;
     let mut cpu = Cpu::new(alloc, 0, 0, 0);
     cpu.set_register(Reg::new(1), first);
     cpu.set_register(Reg::new(2), second);
@@ -88,7 +92,7 @@ fn ran(alloc: Global, code: [u32; 4], first: u64, second: u64, steps: u8) -> Opt
     let mut bus = Nothing;
     for _ in 0..steps {
         cpu = cpu.copy().ok()?;
-        match step(&image, &mut cpu, &mut bus) {
+        match step(&program, &mut cpu, &mut bus) {
             Ok(Stop::Next | Stop::Turn) => (),
             _ => return None,
         }

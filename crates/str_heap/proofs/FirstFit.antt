@@ -1,27 +1,18 @@
 -- A string is stored at the first place that has room for it.
-use Rattle.std.proofs.Common.{◌≡◌, ℕ, ◌+◌, ◌≤◌, true, List, length, get_or, sym, ap, subst, ◌∙◌, arith, length-take, length-drop, ◌⊎◌, inl, inr}
+use Rattle.std.proofs.Common.{◌≡◌, ℕ, ◌+◌, ◌≤◌, true, List, length, get_or, sym, subst, ◌∙◌, arith, ◌⊎◌, inl, inr}
 use Rattle.std.proofs.lemmas.Bool.{false≢true}
 use Rattle.fb_base.specs.declared.shape.Desc.{Desc}
 use Rattle.str_heap.specs.Blocks.{Spans, is_free}
-use Rattle.str_heap.specs.Payloads.{blocks, contents, bytes_at}
+use Rattle.str_heap.specs.Payloads.{blocks, contents}
 use Rattle.str_heap.specs.FirstFit.{IsNobodys, IsFirstFit}
 use Rattle.str_heap.specs.Sound.{end_of, IsSound, Finds}
 use Rattle.str_heap.proofs.Runs.{by_test, by_order, within-true, within-here}
-use Rattle.str_heap.proofs.Arena.{contents-at}
+use Rattle.str_heap.proofs.Live.{length-bytes_at}
 
 module _ (L A : List ℕ) (H : Spans) (live : ℕ) (s : IsSound L A H live) where
-  -- how long the string is that begins at a block
-  long_at : (k : ℕ) → length (bytes_at (contents L A) k) ≡ get_or L k 0
-  long_at k =
-      let n = get_or L k 0 in
-      ap length (contents-at L A k)
-      ∙ by_order 0 n
-      (λ begins. let i = s.inside k begins in rw (length-take, length-drop) (omega (arith, s.sized)))
-      (λ none. rw length-take (omega arith))
-
   open_is_nobodys : (b : ℕ) → (is_free H.spans b ≡ true) ⊎ (length L ≤ b) → IsNobodys (contents L A) b
   open_is_nobodys b clear k le =
-      subst (λ (m : ℕ). k + blocks m ≤ b) (sym (long_at k))
+      subst (λ (m : ℕ). k + blocks m ≤ b) (sym (length-bytes_at L A H live s k))
       (by_order 0 (get_or L k 0)
       (λ begins. by_order b (end_of L k)
       (λ inner. absurd (elim clear [
@@ -36,7 +27,7 @@ module _ (L A : List ℕ) (H : Spans) (live : ℕ) (s : IsSound L A H live) wher
       by_order b (length L)
       (λ inner. by_test (is_free H.spans b) (λ free. inl free)
       (λ taken. let r = s.covered b inner taken in
-      let ends : end_of L r.0 ≤ b = subst (λ (m : ℕ). r.0 + blocks m ≤ b) (long_at r.0) (none r.0 r.2) in
+      let ends : end_of L r.0 ≤ b = subst (λ (m : ℕ). r.0 + blocks m ≤ b) (length-bytes_at L A H live s r.0) (none r.0 r.2) in
       absurd (omega (arith, r.3))))
       (λ past. inr past)
 

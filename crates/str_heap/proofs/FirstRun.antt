@@ -1,11 +1,11 @@
 -- The first run that has n blocks begins at the first place from which on n blocks are free.
-use Rattle.std.proofs.Common.{◌≡◌, ℕ, suc, ◌+◌, ◌-◌, ◌<◌, ◌≤◌, leb, Bool, true, false, ◌||◌, List, [], ◌∷◌, ◌++◌, length, take, drop, get_or, refl, sym, ap, subst, ◌∙◌, arith, le-leb, leb-true, Option, None, Some, option_map}
+use Rattle.std.proofs.Common.{◌≡◌, ℕ, suc, ◌+◌, ◌-◌, ◌<◌, ◌≤◌, leb, Bool, true, false, ◌||◌, List, [], ◌∷◌, length, take, drop, get_or, refl, sym, ap, subst, ◌∙◌, arith, le-leb, leb-true, Option, None, Some}
 use Rattle.std.specs.Option.{IfNone}
 use Rattle.std.proofs.lemmas.List.{take_all}
 use Rattle.std.proofs.lemmas.Bool.{false≢true}
 use Rattle.str_heap.specs.declared.holes.Hole.{Hole}
 use Rattle.str_heap.specs.Blocks.{IsSpaced, is_free, within, fit_at, AreFree}
-use Rattle.str_heap.proofs.Runs.{by_test, by_order, after, within-true, within-here, within-false, is_free-append, free-here, free-above, free-below, split_spaced, split_at, suc_of, not_free, read_small, after-last}
+use Rattle.str_heap.proofs.Runs.{by_test, by_order, after, within-true, within-here, within-false, is_free-append, free-here, free-above, free-below, split_spaced, split_here, suc_of, none_of, not_free, read_small, after-last}
 
 -- a run that has too few blocks has none of n free ones
 past_short : (n p low : ℕ) (h : Hole) (hs : List Hole) → 0 < n → IsSpaced low (h ∷ hs) → h.size < n → AreFree n p (h ∷ hs) → h.place + h.size ≤ p
@@ -26,10 +26,6 @@ behind_short n p low h hs some s short free = λ b w.
     let out : within h.place h.size b ≡ false = within-false h.place h.size b (λ above below. omega arith) in
     let f = free b w in
     rw out at f
-
-none_of : (o : Option ℕ) → option_map suc o ≡ None → o ≡ None
-none_of None e = refl
-none_of (Some i) e = absurd cc
 
 pub none_free : (n p low : ℕ) (hs : List Hole) → 0 < n → IsSpaced low hs → fit_at n hs ≡ None → AreFree n p hs → ⊥
 none_free n p low [] some s e free = false≢true (free p (within-here p n p (omega arith) (omega arith)))
@@ -57,17 +53,13 @@ pub where_none : {T P : Type 0} (o : Option T) → P → IfNone o P
 where_none None holds = holds
 where_none (Some x) holds = tt
 
--- the run at an index is h
-form : (hs : List Hole) (i : ℕ) (h : Hole) → i < length hs → h ≡ get_or hs i h → hs ≡ take i hs ++ (h ∷ drop (suc i) hs)
-form hs i h lt read = split_at hs i h lt ∙ ap (λ (k : Hole). take i hs ++ (k ∷ drop (suc i) hs)) (sym read)
-
 or_none : (x y z : Bool) → x ≡ false → y ≡ false → z ≡ false → (x || (y || z)) ≡ false
 or_none x y z p q r = rw (p, q, r) refl
 
 -- the block before a run isn't free
 pub front_alone : (hs : List Hole) (i : ℕ) (h : Hole) (b : ℕ) → IsSpaced 0 hs → i < length hs → h ≡ get_or hs i h → b + 1 ≡ h.place → is_free hs b ≡ false
 front_alone hs i h b s lt read at_front =
-    let e = form hs i h lt read in
+    let e = split_here hs i h lt read in
     let xs = take i hs in
     let ys = drop (suc i) hs in
     let parts = split_spaced xs (h ∷ ys) 0 (subst (IsSpaced 0) e s) in
@@ -85,5 +77,5 @@ end_alone hs i h end b s count read other known at_end =
     let whole : take (suc i) hs ≡ hs = take_all (suc i) hs (omega arith) in
     let last : after 0 hs ≡ h.place + h.size + 1 = ap (after 0) (sym whole) ∙ after-last hs 0 i h lt ∙ ap (λ (k : Hole). k.place + k.size + 1) (sym read) in
     let k = h.place + h.size - 1 in
-    let f : is_free hs k ≡ true = ap (λ (t : List Hole). is_free t k) (form hs i h lt read) ∙ free-here (take i hs) h (drop (suc i) hs) k (omega (arith, large.0)) (omega (arith, large.0)) in
+    let f : is_free hs k ≡ true = ap (λ (t : List Hole). is_free t k) (split_here hs i h lt read) ∙ free-here (take i hs) h (drop (suc i) hs) k (omega (arith, large.0)) (omega (arith, large.0)) in
     not_free (is_free hs b) (λ free. other (omega (arith, known k f, large.0, free-below hs 0 b s free)))

@@ -31,17 +31,19 @@ fresh-apart old new d e bytes s l some some' same =
     let zero : d.length ≡ 0 = l.length ∙ ap length (bytes-some old d some ∙ none) in
     omega arith
 
+-- how long the string is that begins at a block
+pub length-bytes_at : (L A : List ℕ) (H : Spans) (live : ℕ) → IsSound L A H live → (k : ℕ) → length (bytes_at (contents L A) k) ≡ get_or L k 0
+length-bytes_at L A H live s k =
+    let n = get_or L k 0 in
+    ap length (contents-at L A k)
+    ∙ by_order 0 n
+    (λ begins. let i = s.inside k begins in rw (length-take, length-drop) (omega (arith, s.sized)))
+    (λ none. rw length-take (omega arith))
+
 -- a live descriptor that isn't empty is that of the string which begins at its place
 pub begins_here : (L A : List ℕ) (H : Spans) (live : ℕ) (d : Desc) → IsSound L A H live → IsLive (contents L A) d → 0 < d.length → get_or L d.place 0 ≡ d.length
 begins_here L A H live d s l some =
-    let n = get_or L d.place 0 in
-    let e : d.length ≡ length (take n (drop (16 * d.place) A)) = l.length ∙ ap length (bytes-some (contents L A) d some ∙ contents-at L A d.place) in
-    let m : length (take n (drop (16 * d.place) A)) ≡ n =
-    by_order 0 n
-    (λ begins. let i = s.inside d.place begins in rw (length-take, length-drop) (omega (arith, s.sized)))
-    (λ none. rw length-take (omega arith))
-    in
-    sym (e ∙ m)
+    sym (l.length ∙ ap length (bytes-some (contents L A) d some) ∙ length-bytes_at L A H live s d.place)
 
 -- a live descriptor that isn't empty, in what a heap keeps
 module _ (L A : List ℕ) (H : Spans) (live : ℕ) (d : Desc) (s : IsSound L A H live) (l : IsLive (contents L A) d) (some : 0 < d.length) where

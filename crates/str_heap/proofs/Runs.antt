@@ -146,7 +146,7 @@ module _ (n : ℕ) (xs : List Hole) (h : Hole) (ys : List Hole) (some : 0 < n) (
   }
 
 -- the run at an index is h
-split_here : (hs : List Hole) (i : ℕ) (h : Hole) → i < length hs → h ≡ get_or hs i h → hs ≡ take i hs ++ (h ∷ drop (suc i) hs)
+pub split_here : (hs : List Hole) (i : ℕ) (h : Hole) → i < length hs → h ≡ get_or hs i h → hs ≡ take i hs ++ (h ∷ drop (suc i) hs)
 split_here hs i h lt read = split_at hs i h lt ∙ ap (λ (k : Hole). take i hs ++ (k ∷ drop (suc i) hs)) (sym read)
 
 pub removes_at_front : (n : ℕ) (hs : List Hole) (i : ℕ) (h : Hole) → 0 < n → IsSpaced 0 hs → i < length hs → h ≡ get_or hs i h → n < h.size → Removes n h.place hs (set hs i (record { place = h.place + n; size = h.size - n }))
@@ -171,14 +171,14 @@ spaced-small (h ∷ hs) low (suc k) d s lt = spaced-small hs (h.place + h.size +
 pub read_small : (hs : List Hole) (i : ℕ) (h : Hole) → IsSpaced 0 hs → i < length hs → h ≡ get_or hs i h → (0 < h.size) × (h.place + h.size < 2 ^ 63)
 read_small hs i h s lt read = subst (λ (k : Hole). (0 < k.size) × (k.place + k.size < 2 ^ 63)) (sym read) (spaced-small hs 0 i h s lt)
 
+pub none_of : (o : Option ℕ) → option_map suc o ≡ None → o ≡ None
+none_of None e = refl
+none_of (Some i) e = absurd cc
+
 fit_at-short : (n : ℕ) (hs : List Hole) (i : ℕ) (d : Hole) → fit_at n hs ≡ None → i < length hs → (get_or hs i d).size < n
 fit_at-short n [] i d e lt = absurd (omega arith)
 fit_at-short n (h ∷ hs) zero d e lt = by_order h.size n (λ less. less) (λ fits. absurd (let e' : Some 0 ≡ None = rw (le-leb n h.size fits) at e in cc))
 fit_at-short n (h ∷ hs) (suc i) d e lt = by_test (leb n h.size) (λ t. absurd (let e' : Some 0 ≡ None = rw t at e in cc)) (λ t. fit_at-short n hs i d (none_of (fit_at n hs) (rw t at e)) (omega arith))
-  where
-    none_of : (o : Option ℕ) → option_map suc o ≡ None → o ≡ None
-    none_of None e = refl
-    none_of (Some i) e = absurd cc
 
 pub short_here : (n : ℕ) (hs : List Hole) (i : ℕ) (h : Hole) → fit_at n hs ≡ None → i < length hs → h ≡ get_or hs i h → h.size < n
 short_here n hs i h e lt read = subst (λ (k : Hole). k.size < n) (sym read) (fit_at-short n hs i h e lt)

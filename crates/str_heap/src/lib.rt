@@ -3,7 +3,5 @@
 
 mod heap;
 mod holes;
-#[cfg(test)]
-mod tests;
 
 pub use heap::Heap;

@@ -4,26 +4,27 @@ use Rattle.std.specs.Prelude.{decimal}
 use Rattle.std.specs.List.{slice_get}
 use Rattle.std.proofs.lemmas.Bool.{ltb-true}
 use Rattle.fb_base.specs.declared.fault.TrapKind.TheVariants.{BadString, StrIndex, StrLimit, BadCode}
-use Rattle.text_functions.specs.Functions.{is_below_one, left, right, mid, chr, asc, find, left_trimmed, right_trimmed, val, compared, signed_text, upper, lower}
+use Rattle.thread_system.specs.Printing.{signed_text}
+use Rattle.text_functions.specs.Functions.{is_below_one, left, right, mid, chr, asc, find, left_trimmed, right_trimmed, val, compared, upper, lower}
 use Rattle.text_calls.specs.declared.outcome.Outcome.{Outcome}
 use Rattle.text_calls.specs.declared.outcome.Outcome.TheVariants.{Trapped, Gives, Makes, Sets, Puts, Drops}
-use Rattle.text_calls.specs.Strings.{Spot, no_cell, dead, holds, is_dead, text_of}
+use Rattle.text_calls.specs.Strings.{CellState, no_cell, dead, holds, is_dead, text_of}
 use Rattle.text_calls.specs.Outcomes.{Fits}
 use Rattle.text_calls.specs.Rows.{Strings, longest, into, on_text, from, limited, from_literal, at, str_init, str_drop, str_lit, str_copy, str_cat, str_set, str_cmp, str_len, str_left, str_right, str_mid, str_chr, str_asc, str_signed, str_unsigned, str_val, str_find, str_upper, str_lower, str_space, str_ltrim, str_rtrim, str_get, str_put, from_10, from_16, from_22, from_28, outcome_of}
 
 into_fits : (strings : Strings) (d : ℕ) (next : Outcome) → (strings d ≡ dead → Fits strings next) → Fits strings (into strings d next)
-into_fits strings d next fits = by_spot (strings d) refl where
-  by_spot : (spot : Spot) → strings d ≡ spot → Fits strings (cond (is_dead spot) next (Trapped BadString))
-  by_spot no_cell is = tt
-  by_spot dead is = fits is
-  by_spot (holds s) is = tt
+into_fits strings d next fits = by_state (strings d) refl where
+  by_state : (state : CellState) → strings d ≡ state → Fits strings (cond (is_dead state) next (Trapped BadString))
+  by_state no_cell is = tt
+  by_state dead is = fits is
+  by_state (holds s) is = tt
 
 from_fits : (strings : Strings) (s : ℕ) (next : List ℕ → Outcome) → ((x : List ℕ) → strings s ≡ holds x → Fits strings (next x)) → Fits strings (from strings s next)
-from_fits strings s next fits = by_spot (strings s) refl where
-  by_spot : (spot : Spot) → strings s ≡ spot → Fits strings (on_text (text_of spot) next)
-  by_spot no_cell is = tt
-  by_spot dead is = tt
-  by_spot (holds x) is = fits x is
+from_fits strings s next fits = by_state (strings s) refl where
+  by_state : (state : CellState) → strings s ≡ state → Fits strings (on_text (text_of state) next)
+  by_state no_cell is = tt
+  by_state dead is = tt
+  by_state (holds x) is = fits x is
 
 if_fits : (strings : Strings) (b : Bool) (x y : Outcome) → Fits strings x → Fits strings y → Fits strings (cond b x y)
 if_fits strings true x y f g = f

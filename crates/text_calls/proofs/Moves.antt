@@ -7,8 +7,8 @@ use Rattle.places.specs.Place.{is_alive}
 use Rattle.places.specs.Memory.{Places, cell_at}
 use Rattle.str_heap.specs.Payloads.{bytes_of, IsLive, IsApart, Keeps, Stores, Assigns, Changes}
 use Rattle.text_calls.specs.declared.outcome.Outcome.TheVariants.{Makes, Sets, Puts, Drops}
-use Rattle.text_calls.specs.Strings.{Spot, no_cell, dead, holds, spot_of, strings_of, AreKept}
-use Rattle.text_calls.specs.Outcomes.{with_spot, with_byte, IsAlive, Fits}
+use Rattle.text_calls.specs.Strings.{CellState, no_cell, dead, holds, cell_state_of, strings_of, AreKept}
+use Rattle.text_calls.specs.Outcomes.{with_cell_state, with_byte, IsAlive, Fits}
 use Rattle.text_calls.specs.Answers.{KeepsRest, Leaves}
 use Rattle.text_calls.specs.Carrying.{SetsOne}
 
@@ -54,28 +54,28 @@ moved_kept m m' heap heap' a cell v = record {
   apart = moved_apart m m' heap heap' a cell v;
 }
 
-pub moved_strings : (m m' : Places) (heap heap' : List (List ℕ)) (a : ℕ) (cell : Cell) → Moves m m' heap heap' a cell → (q : ℕ) → strings_of m' heap' q ≡ with_spot a (spot_of heap' (Some cell)) (strings_of m heap) q
+pub moved_strings : (m m' : Places) (heap heap' : List (List ℕ)) (a : ℕ) (cell : Cell) → Moves m m' heap heap' a cell → (q : ℕ) → strings_of m' heap' q ≡ with_cell_state a (cell_state_of heap' (Some cell)) (strings_of m heap) q
 unfolding strings_of
 moved_strings m m' heap heap' a cell v q = by_case (cases_eq q a) where
   by_alive : q ≢ a → (x : Cell) → cell_at m q ≡ Some x → (b : Bool) → x.alive ≡ b → cond b (holds (bytes_of heap' x.desc)) dead ≡ cond b (holds (bytes_of heap x.desc)) dead
   by_alive ne x is true alive = ap holds (v.stay q x ne is alive).0.same
   by_alive ne x is false alive = refl
 
-  by_cell : q ≢ a → (c : Option Cell) → cell_at m q ≡ c → spot_of heap' c ≡ spot_of heap c
+  by_cell : q ≢ a → (c : Option Cell) → cell_at m q ≡ c → cell_state_of heap' c ≡ cell_state_of heap c
   by_cell ne None is = refl
   by_cell ne (Some x) is = by_alive ne x is x.alive refl
 
-  by_case : (q ≡ a) ⊎ (q ≢ a) → spot_of heap' (cell_at m' q) ≡ cond (eqb q a) (spot_of heap' (Some cell)) (spot_of heap (cell_at m q))
+  by_case : (q ≡ a) ⊎ (q ≢ a) → cell_state_of heap' (cell_at m' q) ≡ cond (eqb q a) (cell_state_of heap' (Some cell)) (cell_state_of heap (cell_at m q))
   by_case (inl e) =
-      ap (λ k. spot_of heap' (cell_at m' k)) e ∙ ap (spot_of heap') v.here
-      ∙ sym (ap (λ b. cond b (spot_of heap' (Some cell)) (spot_of heap (cell_at m q))) (eq-eqb q a e))
+      ap (λ k. cell_state_of heap' (cell_at m' k)) e ∙ ap (cell_state_of heap') v.here
+      ∙ sym (ap (λ b. cond b (cell_state_of heap' (Some cell)) (cell_state_of heap (cell_at m q))) (eq-eqb q a e))
   by_case (inr ne) =
-      ap (spot_of heap') (v.others q ne) ∙ by_cell ne (cell_at m q) refl
-      ∙ sym (ap (λ b. cond b (spot_of heap' (Some cell)) (spot_of heap (cell_at m q))) (ne_eqb q a ne))
+      ap (cell_state_of heap') (v.others q ne) ∙ by_cell ne (cell_at m q) refl
+      ∙ sym (ap (λ b. cond b (cell_state_of heap' (Some cell)) (cell_state_of heap (cell_at m q))) (ne_eqb q a ne))
 
 -- the strings where the cell's bytes are known
-pub with_bytes : (a : ℕ) (s t : List ℕ) (strings : ℕ → Spot) (q : ℕ) → s ≡ t → with_spot a (holds s) strings q ≡ with_spot a (holds t) strings q
-with_bytes a s t strings q e = ap (λ x. with_spot a (holds x) strings q) e
+pub with_bytes : (a : ℕ) (s t : List ℕ) (strings : ℕ → CellState) (q : ℕ) → s ≡ t → with_cell_state a (holds s) strings q ≡ with_cell_state a (holds t) strings q
+with_bytes a s t strings q e = ap (λ x. with_cell_state a (holds x) strings q) e
 
 -- What is known of an alive cell.
 pub alive_is : (m : Places) (heap : List (List ℕ)) (a : ℕ) → IsAlive (strings_of m heap a) → is_alive (cell_at m a) ≡ true
@@ -91,13 +91,13 @@ alive_is m heap a is = by_cell (cell_at m a) is.1 where
   by_alive s true e = refl
   by_alive s false e = absurd (not_alive e)
 
-  by_cell : (c : Option Cell) → spot_of heap c ≡ holds is.0 → is_alive c ≡ true
+  by_cell : (c : Option Cell) → cell_state_of heap c ≡ holds is.0 → is_alive c ≡ true
   by_cell None e = absurd (not_there e)
   by_cell (Some x) e = by_alive (bytes_of heap x.desc) x.alive e
 
 pub alive_text : (m : Places) (heap : List (List ℕ)) (a : ℕ) (cell : Cell) → cell_at m a ≡ Some cell → cell.alive ≡ true → strings_of m heap a ≡ holds (bytes_of heap cell.desc)
 unfolding strings_of
-alive_text m heap a cell is alive = ap (spot_of heap) is ∙ ap (λ b. cond b (holds (bytes_of heap cell.desc)) dead) alive
+alive_text m heap a cell is alive = ap (cell_state_of heap) is ∙ ap (λ b. cond b (holds (bytes_of heap cell.desc)) dead) alive
 
 pub dead_there : (m : Places) (heap : List (List ℕ)) (a : ℕ) → strings_of m heap a ≡ dead → is_some (cell_at m a) ≡ true
 unfolding strings_of
@@ -105,7 +105,7 @@ dead_there m heap a is = by_cell (cell_at m a) is where
   not_there : no_cell ≡ dead → ⊥
   not_there e = cc
 
-  by_cell : (c : Option Cell) → spot_of heap c ≡ dead → is_some c ≡ true
+  by_cell : (c : Option Cell) → cell_state_of heap c ≡ dead → is_some c ≡ true
   by_cell None e = absurd (not_there e)
   by_cell (Some x) e = refl
 
@@ -193,15 +193,15 @@ module _ (m : Places) (heap heap' : List (List ℕ)) (a i byte : ℕ) (old : Cel
   pub put_kept : AreKept m heap'
   put_kept = moved_kept m m heap heap' a old put_moves
 
-  spot_is : spot_of heap' (Some old) ≡ with_byte i byte (strings_of m heap a)
-  spot_is =
+  state_is : cell_state_of heap' (Some old) ≡ with_byte i byte (strings_of m heap a)
+  state_is =
       ap (λ b. cond b (holds (bytes_of heap' old.desc)) dead) was
       ∙ ap holds changed.holds
       ∙ sym (ap (with_byte i byte) (alive_text m heap a old is was))
 
   pub put_leaves : Leaves (Puts a i byte) m heap m heap'
   put_leaves = record {
-    strings = λ q. moved_strings m m heap heap' a old put_moves q ∙ ap (λ x. with_spot a x (strings_of m heap) q) spot_is;
+    strings = λ q. moved_strings m m heap heap' a old put_moves q ∙ ap (λ x. with_cell_state a x (strings_of m heap) q) state_is;
     rest = same_rest m;
   }
 

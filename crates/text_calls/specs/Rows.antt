@@ -3,13 +3,14 @@
 -- order: d has to be a cell that isn't alive, s, t, a, b and c alive ones.
 use Rattle.std.specs.Prelude.{ℕ, ◌+◌, ◌%◌, ◌==◌, nat_lt, if◌then◌else◌, List, [], ◌++◌, length, slice_index, slice_get, replicate, decimal, Option, Some, None}
 use Rattle.fb_base.specs.declared.fault.TrapKind.TheVariants.{BadString, StrIndex, StrLimit, BadCode}
-use Rattle.text_functions.specs.Functions.{is_below_one, left, right, mid, chr, asc, find, left_trimmed, right_trimmed, val, compared, signed_text, upper, lower}
+use Rattle.thread_system.specs.Printing.{signed_text}
+use Rattle.text_functions.specs.Functions.{is_below_one, left, right, mid, chr, asc, find, left_trimmed, right_trimmed, val, compared, upper, lower}
 use Rattle.text_calls.specs.declared.outcome.Outcome.{Outcome}
 use Rattle.text_calls.specs.declared.outcome.Outcome.TheVariants.{Trapped, Gives, Makes, Sets, Puts, Drops}
-use Rattle.text_calls.specs.Strings.{Spot, is_dead, text_of}
+use Rattle.text_calls.specs.Strings.{CellState, is_dead, text_of}
 
 abbrev pub Strings : Type 0
-Strings = ℕ → Spot
+Strings = ℕ → CellState
 
 -- the most bytes of a string
 abbrev pub longest : ℕ

@@ -5,27 +5,27 @@ use Rattle.places.specs.declared.kinds.Cell.{Cell}
 use Rattle.places.specs.Memory.{Places, cell_at}
 use Rattle.str_heap.specs.Payloads.{bytes_at, bytes_of, IsLive, IsApart}
 
-pub data Spot : Type 0 where
-  no_cell : Spot
-  dead : Spot
-  holds : List ℕ → Spot
+pub data CellState : Type 0 where
+  no_cell : CellState
+  dead : CellState
+  holds : List ℕ → CellState
 
 -- an alive cell has the bytes of its descriptor
-abbrev pub spot_of : List (List ℕ) → Option Cell → Spot
-spot_of heap None = no_cell
-spot_of heap (Some cell) = if cell.alive then holds (bytes_of heap cell.desc) else dead
+abbrev pub cell_state_of : List (List ℕ) → Option Cell → CellState
+cell_state_of heap None = no_cell
+cell_state_of heap (Some cell) = if cell.alive then holds (bytes_of heap cell.desc) else dead
 
-unfoldable pub strings_of : Places → List (List ℕ) → ℕ → Spot
-strings_of m heap a = spot_of heap (cell_at m a)
+unfoldable pub strings_of : Places → List (List ℕ) → ℕ → CellState
+strings_of m heap a = cell_state_of heap (cell_at m a)
 
 -- whether there is a cell that isn't alive
-abbrev pub is_dead : Spot → Bool
+abbrev pub is_dead : CellState → Bool
 is_dead no_cell = false
 is_dead dead = true
 is_dead (holds s) = false
 
 -- the bytes of an alive cell
-abbrev pub text_of : Spot → Option (List ℕ)
+abbrev pub text_of : CellState → Option (List ℕ)
 text_of no_cell = None
 text_of dead = None
 text_of (holds s) = Some s

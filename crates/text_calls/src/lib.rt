@@ -7,10 +7,9 @@ mod carry;
 pub mod laws;
 mod outcome;
 mod plan;
+mod reading;
 mod rows;
-mod spots;
-#[cfg(test)]
-mod tests;
 
 pub use call::text_call;
 pub use outcome::{Outcome, TextErr};
+pub use reading::text_at;

@@ -6,7 +6,7 @@ ghost use Rattle.text_functions.specs.Functions as functions;
 ghost use Rattle.text_calls.specs.Rows as spec;
 
 use crate::outcome::Outcome;
-use crate::spots::{is_dead, text};
+use crate::reading::{is_dead, text_at};
 use fb_base::{NoMemory, Text, TrapKind};
 use fb_image::Literals;
 use places::Memory;
@@ -54,7 +54,7 @@ pub fn str_drop(mem: &Memory, heap: &Heap, c: u64) -> Result<Outcome, NoMemory>
     requires { AreKept mem.now heap.now }
     ensures { Tells (spec.str_drop (strings_of mem.now heap.now) c) result }
 {
-    match text(mem, heap, c) {
+    match text_at(mem, heap, c) {
         Some(_) => Ok(Outcome::Drops { cell: c }),
         None => trap(TrapKind::BadString),
     }
@@ -92,7 +92,7 @@ pub fn str_copy(mem: &Memory, heap: &Heap, d: u64, s: u64) -> Result<Outcome, No
     if !is_dead(mem, d) {
         return trap(TrapKind::BadString);
     }
-    match text(mem, heap, s) {
+    match text_at(mem, heap, s) {
         Some(x) => made(heap.allocator(), d, x),
         None => trap(TrapKind::BadString),
     }
@@ -120,8 +120,8 @@ pub fn str_cat(mem: &Memory, heap: &Heap, d: u64, a: u64, b: u64) -> Result<Outc
     if !is_dead(mem, d) {
         return trap(TrapKind::BadString);
     }
-    match text(mem, heap, a) {
-        Some(x) => match text(mem, heap, b) {
+    match text_at(mem, heap, a) {
+        Some(x) => match text_at(mem, heap, b) {
             Some(y) => cat(heap.allocator(), d, x, y),
             None => trap(TrapKind::BadString),
         },
@@ -145,8 +145,8 @@ pub fn str_set(mem: &Memory, heap: &Heap, c: u64, s: u64) -> Result<Outcome, NoM
     requires { AreKept mem.now heap.now }
     ensures { Tells (spec.str_set (strings_of mem.now heap.now) c s) result }
 {
-    match text(mem, heap, c) {
-        Some(_) => match text(mem, heap, s) {
+    match text_at(mem, heap, c) {
+        Some(_) => match text_at(mem, heap, s) {
             Some(x) => changed(heap.allocator(), c, x),
             None => trap(TrapKind::BadString),
         },
@@ -160,8 +160,8 @@ pub fn str_cmp(mem: &Memory, heap: &Heap, a: u64, b: u64) -> Result<Outcome, NoM
     requires { AreKept mem.now heap.now }
     ensures { Tells (spec.str_cmp (strings_of mem.now heap.now) a b) result }
 {
-    match text(mem, heap, a) {
-        Some(x) => match text(mem, heap, b) {
+    match text_at(mem, heap, a) {
+        Some(x) => match text_at(mem, heap, b) {
             Some(y) => Ok(Outcome::Gives(compared(x, y))),
             None => trap(TrapKind::BadString),
         },
@@ -175,7 +175,7 @@ pub fn str_len(mem: &Memory, heap: &Heap, s: u64) -> Result<Outcome, NoMemory>
     requires { AreKept mem.now heap.now }
     ensures { Tells (spec.str_len (strings_of mem.now heap.now) s) result }
 {
-    match text(mem, heap, s) {
+    match text_at(mem, heap, s) {
         Some(x) => Ok(Outcome::Gives(x.len() as u64)),
         None => trap(TrapKind::BadString),
     }
@@ -190,7 +190,7 @@ pub fn str_left(mem: &Memory, heap: &Heap, d: u64, s: u64, n: u64) -> Result<Out
     if !is_dead(mem, d) {
         return trap(TrapKind::BadString);
     }
-    match text(mem, heap, s) {
+    match text_at(mem, heap, s) {
         Some(x) => made(heap.allocator(), d, left(x, n)),
         None => trap(TrapKind::BadString),
     }
@@ -205,7 +205,7 @@ pub fn str_right(mem: &Memory, heap: &Heap, d: u64, s: u64, n: u64) -> Result<Ou
     if !is_dead(mem, d) {
         return trap(TrapKind::BadString);
     }
-    match text(mem, heap, s) {
+    match text_at(mem, heap, s) {
         Some(x) => made(heap.allocator(), d, right(x, n)),
         None => trap(TrapKind::BadString),
     }
@@ -227,7 +227,7 @@ pub fn str_mid(
     if !is_dead(mem, d) {
         return trap(TrapKind::BadString);
     }
-    match text(mem, heap, s) {
+    match text_at(mem, heap, s) {
         Some(x) => made(heap.allocator(), d, mid(x, i, n)),
         None => trap(TrapKind::BadString),
     }
@@ -250,7 +250,7 @@ pub fn str_asc(mem: &Memory, heap: &Heap, s: u64, i: u64) -> Result<Outcome, NoM
     requires { AreKept mem.now heap.now }
     ensures { Tells (spec.str_asc (strings_of mem.now heap.now) s i) result }
 {
-    match text(mem, heap, s) {
+    match text_at(mem, heap, s) {
         Some(x) => Ok(Outcome::Gives(asc(x, i))),
         None => trap(TrapKind::BadString),
     }
@@ -290,7 +290,7 @@ pub fn str_val(mem: &Memory, heap: &Heap, s: u64) -> Result<Outcome, NoMemory>
     requires { AreKept mem.now heap.now }
     ensures { Tells (spec.str_val (strings_of mem.now heap.now) s) result }
 {
-    match text(mem, heap, s) {
+    match text_at(mem, heap, s) {
         Some(x) => Ok(Outcome::Gives(val(x))),
         None => trap(TrapKind::BadString),
     }
@@ -302,8 +302,8 @@ pub fn str_find(mem: &Memory, heap: &Heap, i: u64, s: u64, t: u64) -> Result<Out
     requires { AreKept mem.now heap.now }
     ensures { Tells (spec.str_find (strings_of mem.now heap.now) i s t) result }
 {
-    match text(mem, heap, s) {
-        Some(x) => match text(mem, heap, t) {
+    match text_at(mem, heap, s) {
+        Some(x) => match text_at(mem, heap, t) {
             Some(y) => Ok(Outcome::Gives(find(i, x, y))),
             None => trap(TrapKind::BadString),
         },
@@ -330,7 +330,7 @@ pub fn str_upper(mem: &Memory, heap: &Heap, d: u64, s: u64) -> Result<Outcome, N
     if !is_dead(mem, d) {
         return trap(TrapKind::BadString);
     }
-    match text(mem, heap, s) {
+    match text_at(mem, heap, s) {
         Some(x) => capitals(heap.allocator(), d, x),
         None => trap(TrapKind::BadString),
     }
@@ -355,7 +355,7 @@ pub fn str_lower(mem: &Memory, heap: &Heap, d: u64, s: u64) -> Result<Outcome, N
     if !is_dead(mem, d) {
         return trap(TrapKind::BadString);
     }
-    match text(mem, heap, s) {
+    match text_at(mem, heap, s) {
         Some(x) => small(heap.allocator(), d, x),
         None => trap(TrapKind::BadString),
     }
@@ -390,7 +390,7 @@ pub fn str_ltrim(mem: &Memory, heap: &Heap, d: u64, s: u64) -> Result<Outcome, N
     if !is_dead(mem, d) {
         return trap(TrapKind::BadString);
     }
-    match text(mem, heap, s) {
+    match text_at(mem, heap, s) {
         Some(x) => made(heap.allocator(), d, left_trimmed(x)),
         None => trap(TrapKind::BadString),
     }
@@ -405,7 +405,7 @@ pub fn str_rtrim(mem: &Memory, heap: &Heap, d: u64, s: u64) -> Result<Outcome, N
     if !is_dead(mem, d) {
         return trap(TrapKind::BadString);
     }
-    match text(mem, heap, s) {
+    match text_at(mem, heap, s) {
         Some(x) => made(heap.allocator(), d, right_trimmed(x)),
         None => trap(TrapKind::BadString),
     }
@@ -417,7 +417,7 @@ pub fn str_get(mem: &Memory, heap: &Heap, s: u64, i: u64) -> Result<Outcome, NoM
     requires { AreKept mem.now heap.now }
     ensures { Tells (spec.str_get (strings_of mem.now heap.now) s i) result }
 {
-    match text(mem, heap, s) {
+    match text_at(mem, heap, s) {
         Some(x) => {
             if i < x.len() as u64 {
                 return Ok(Outcome::Gives(x[i as usize] as u64));
@@ -434,7 +434,7 @@ pub fn str_put(mem: &Memory, heap: &Heap, s: u64, i: u64, v: u64) -> Result<Outc
     requires { AreKept mem.now heap.now }
     ensures { Tells (spec.str_put (strings_of mem.now heap.now) s i v) result }
 {
-    match text(mem, heap, s) {
+    match text_at(mem, heap, s) {
         Some(x) => {
             if i < x.len() as u64 {
                 return Ok(Outcome::Puts {

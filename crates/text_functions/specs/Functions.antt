@@ -1,6 +1,6 @@
 -- The functions on strings (FreeBASIC Manual: Left, Right, Mid, Chr, Asc, InStr, ValLng, UCase, LCase, LTrim, RTrim, Space,
 -- Str). Positions count from 1. Numbers are 64-bit words; one from 2^63 on is negative.
-use Rattle.std.specs.Prelude.{ℕ, ◌+◌, ◌-◌, ◌*◌, ◌%◌, ◌^◌, ◌==◌, nat_lt, nat_le, Bool, true, false, ◌&&◌, ◌||◌, if◌then◌else◌, List, [], ◌∷◌, length, take, drop, reverse, map, slice_index, decimal}
+use Rattle.std.specs.Prelude.{ℕ, ◌+◌, ◌-◌, ◌*◌, ◌%◌, ◌^◌, ◌==◌, nat_le, Bool, true, false, ◌&&◌, ◌||◌, if◌then◌else◌, List, [], ◌∷◌, length, take, drop, reverse, map, slice_index}
 use Rattle.std.specs.declared.cmp.Ordering.{Ordering}
 use Rattle.std.specs.declared.cmp.Ordering.TheVariants.{Less, Equal, Greater}
 use Rattle.std.specs.Ordering.{nat_cmp}
@@ -94,10 +94,6 @@ order_word Greater = 1
 
 abbrev pub compared : List ℕ → List ℕ → ℕ
 compared a b = order_word (slice_cmp nat_cmp a b)
-
--- the decimal text of a signed number
-abbrev pub signed_text : ℕ → List ℕ
-signed_text v = if is_negative v then 45 ∷ decimal (2 ^ 64 - v) else decimal v
 
 abbrev pub upper_byte : ℕ → ℕ
 upper_byte b = if nat_le 97 b && nat_le b 122 then b - 32 else b

@@ -1,5 +1,6 @@
 ghost use Rattle.std.specs.Prelude.{◌≡◌, true, ◌+◌, ◌-◌, ◌%◌, ◌^◌, ◌<◌, ◌≤◌, ◌++◌, length, take, drop, replicate, decimal, IfOk};
-ghost use Rattle.text_functions.specs.Functions.{is_negative, is_below_one, left, right, mid, asc, find, first_place, trimmed, left_trimmed, right_trimmed, is_space, is_blank, is_digit, digits_value, signed_value, val, compared, signed_text, upper_byte, lower_byte, upper, lower};
+ghost use Rattle.thread_system.specs.Printing.{signed_behind, signed_text};
+ghost use Rattle.text_functions.specs.Functions.{is_negative, is_below_one, left, right, mid, asc, find, first_place, trimmed, left_trimmed, right_trimmed, is_space, is_blank, is_digit, digits_value, signed_value, val, compared, upper_byte, lower_byte, upper, lower};
 
 use fb_base::{NoMemory, Text};
 use itoa::Buffer;
@@ -22,7 +23,7 @@ pub fn is_below_one(n: u64) -> bool
 }
 
 // As many first bytes, or all where there are no more.
-fn first(s: &[u8], n: u64) -> &[u8]
+fn leading(s: &[u8], n: u64) -> &[u8]
     ensures { result.now ≡ take n s.now }
 {
     if n < s.len() as u64 {
@@ -51,7 +52,7 @@ pub fn left(s: &[u8], n: u64) -> &[u8]
     if is_below_one(n) {
         return &[];
     }
-    first(s, n)
+    leading(s, n)
 }
 
 /// Right: the last n bytes. None where n is below 1, and all where there are no more.
@@ -76,7 +77,7 @@ pub fn mid(s: &[u8], i: u64, n: u64) -> &[u8]
     if is_negative(n) {
         return rest;
     }
-    first(rest, n)
+    leading(rest, n)
 }
 
 /// Asc: the byte at position i, or 0 where there is none.
@@ -217,19 +218,28 @@ pub fn compared(a: &[u8], b: &[u8]) -> u64
 pub fn signed_text(alloc: Global, v: u64) -> Result<Text, NoMemory>
     ensures { IfOk result (λ text. text ≡ signed_text v) }
 {
-    if !is_negative(v) {
-        return unsigned_text(alloc, v);
-    }
+    signed_behind(alloc, b"", v)
+}
+
+/// The decimal digits of a signed number, behind other bytes where it isn't negative, else behind a minus sign. The error
+/// is want of memory.
+pub fn signed_behind(alloc: Global, lead: &[u8], v: u64) -> Result<Text, NoMemory>
+    ensures bytes { IfOk result (λ text. text ≡ signed_behind lead.now v) }
+    ensures short { IfOk result (λ text. length text ≤ length lead.now + 41) }
+{
     let mut buffer = Buffer::new();
-    let digits = buffer.format(u64::MAX - v + 1);
-    let mut bytes = Vec::from_slice(alloc, b"-")?;
+    let is_negative = v > 0x7fff_ffff_ffff_ffff;
+    let size = if is_negative { u64::MAX - v + 1 } else { v };
+    let digits = buffer.format(size);
+    let mut bytes = Vec::from_slice(alloc, if is_negative { b"-" } else { lead })?;
     bytes.extend_from_slice(digits.as_bytes())?;
     Ok(Text::from_vec(bytes))
 }
 
 /// Str of an unsigned number: its decimal text. The error is want of memory.
 pub fn unsigned_text(alloc: Global, v: u64) -> Result<Text, NoMemory>
-    ensures { IfOk result (λ text. text ≡ decimal v) }
+    ensures bytes { IfOk result (λ text. text ≡ decimal v) }
+    ensures short { IfOk result (λ text. length text ≤ 40) }
 {
     let mut buffer = Buffer::new();
     Text::of(alloc, buffer.format(v).as_bytes())

@@ -2,10 +2,8 @@
 #![tactic(auto)]
 
 mod functions;
-#[cfg(test)]
-mod tests;
 
 pub use functions::{
     asc, compared, find, is_below_one, is_negative, joined, left, left_trimmed, lower, mid, right,
-    right_trimmed, signed_text, spaces, unsigned_text, upper, val,
+    right_trimmed, signed_behind, signed_text, spaces, unsigned_text, upper, val,
 };

@@ -10,10 +10,9 @@ use Rattle.type_table.specs.declared.layout.Measure.{Measure}
 use Rattle.type_table.specs.declared.layout.Measure.TheVariants.{Waits, Big, Fits}
 use Rattle.type_table.specs.declared.row.Field.{Field}
 use Rattle.type_table.specs.declared.row.Row.{Row}
-use Rattle.type_table.specs.Layouts.{bytes_of, round_up, larger, end_of, kind_align, kind_layout, pointer_layout, string_layout, put, last_of, measure_at, measured, put_fields, measure_before, first_measure, closed, type_measure}
+use Rattle.type_table.specs.Layouts.{bytes_of, round_up, larger, end_of, kind_align, kind_layout, pointer_layout, string_layout, put, last_of, measure_at, measured, put_fields, measure_before, first_measure, closed, type_measure, known_of}
 use Rattle.type_table.specs.Offsets.{size_of, align_of, offset_of}
 use Rattle.type_table.specs.Cells.{repeated, value_cells, fields_cells, row_cells, cells, type_cells, CellsLieInOrder}
-use Rattle.type_table.specs.Tables.{known_of}
 use Rattle.type_table.proofs.Within.{next_multiple, never_waits, never_big, and_part, closed_from, whole}
 use Rattle.type_table.proofs.Known.{Settled, settled, closed_fits}
 

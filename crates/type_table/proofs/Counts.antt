@@ -1,14 +1,7 @@
 -- How many numbers below a bound pass a test.
-use Rattle.std.proofs.Common.{◌≡◌, ℕ, zero, suc, ◌+◌, ◌<◌, ◌≤◌, Bool, true, false, ◌⊎◌, inl, inr, refl, arith}
+use Rattle.std.proofs.Common.{◌≡◌, ℕ, zero, suc, ◌<◌, ◌≤◌, Bool, true, false, ◌⊎◌, inl, inr, refl, arith}
 use Rattle.std.proofs.Common.{below_more}
-
-abbrev pub one : Bool → ℕ
-one true = 1
-one false = 0
-
-abbrev pub count : (ℕ → Bool) → ℕ → ℕ
-count f zero = 0
-count f (suc n) = count f n + one (f n)
+use Rattle.type_table.specs.Plans.{one, count}
 
 -- what passes the first test passes the second one
 abbrev pub Passes : (ℕ → Bool) → (ℕ → Bool) → Type 0
@@ -19,7 +12,7 @@ one_le true true h = omega arith
 one_le true false h = let e : false ≡ true = h refl in absurd (cc)
 one_le false b h = omega arith
 
-count_le : (f g : ℕ → Bool) → Passes f g → (n : ℕ) → count f n ≤ count g n
+pub count_le : (f g : ℕ → Bool) → Passes f g → (n : ℕ) → count f n ≤ count g n
 count_le f g h zero = omega arith
 count_le f g h (suc n) = omega (arith, count_le f g h n, one_le (f n) (g n) (h n))
 

@@ -9,7 +9,8 @@ use Rattle.type_table.specs.declared.row.Field.{Field}
 use Rattle.type_table.specs.declared.row.Row.{Row}
 use Rattle.type_table.specs.Cycles.{HasField, here, later, Contains, directly, through, marked_at, leads, fields_lead, row_leads, led, in_itself}
 use Rattle.type_table.proofs.Circles.{at_place}
-use Rattle.type_table.proofs.Counts.{count, Passes, SameOrFewer, same_or_fewer, at_most}
+use Rattle.type_table.specs.Plans.{count}
+use Rattle.type_table.proofs.Counts.{Passes, SameOrFewer, same_or_fewer, at_most}
 
 either_stays : (a b c d : Bool) → (a ≡ true → c ≡ true) → (b ≡ true → d ≡ true) → (a || b) ≡ true → (c || d) ≡ true
 either_stays true b c d h k e = ap (λ (x : Bool). x || d) (h refl)

@@ -10,13 +10,14 @@ use Rattle.type_table.specs.declared.layout.Measure.{Measure}
 use Rattle.type_table.specs.declared.layout.Measure.TheVariants.{Waits, Big, Fits}
 use Rattle.type_table.specs.declared.row.Field.{Field}
 use Rattle.type_table.specs.declared.row.Row.{Row}
-use Rattle.type_table.specs.Layouts.{round_up, end_of, put, last_of, measure_at, measured, put_fields, measure_before, first_measure, closed, type_measure, measures}
+use Rattle.type_table.specs.Layouts.{round_up, end_of, put, last_of, measure_at, measured, put_fields, measure_before, first_measure, closed, type_measure, measures, known_of}
 use Rattle.type_table.specs.Cycles.{HasField, here, later, directly, through, marked_at, led, in_itself}
 use Rattle.type_table.specs.Members.{first_of}
-use Rattle.type_table.specs.Tables.{measure_fault, row_fault, first_fault, known_of, fault_of, IsLaidOut}
+use Rattle.type_table.specs.Tables.{measure_fault, row_fault, first_fault, fault_of, IsLaidOut}
 use Rattle.type_table.proofs.Stuck.{at_row, no_layout}
 use Rattle.type_table.proofs.Circles.{led_is, contains_itself}
-use Rattle.type_table.proofs.Counts.{count, fewer, not_all}
+use Rattle.type_table.specs.Plans.{count}
+use Rattle.type_table.proofs.Counts.{fewer, not_all}
 use Rattle.type_table.proofs.Found.{found}
 
 -- a field's Type is one of these
@@ -24,7 +25,7 @@ abbrev pub Numbered : List Row → Type 0
 Numbered rows = (number part : ℕ) (row : Row) → slice_get rows number ≡ Some row → HasField row.fields part → part < length rows
 
 -- what waits
-waits_or : (m : Measure) → (m ≡ Waits) ⊎ (m ≡ Waits → ⊥)
+pub waits_or : (m : Measure) → (m ≡ Waits) ⊎ (m ≡ Waits → ⊥)
 waits_or Waits = inl refl
 waits_or Big = inr (λ e. absurd (cc))
 waits_or (Fits l) = inr (λ e. absurd (cc))
@@ -57,7 +58,7 @@ first_not own (Some fault) is e = cc
 first_not own None is e = cc
 
 -- a field of a Type that waits
-abbrev Waiting : List Measure → List Field → Type 0
+abbrev pub Waiting : List Measure → List Field → Type 0
 Waiting known fields = (part : ℕ) × HasField fields part × (measure_at known part ≡ Waits)
 
 type_waits : (known : List Measure) (field : Field) (fields : List Field) (ty : Ty) → field.ty ≡ ty → measured known ty ≡ Waits → Waiting known (field ∷ fields)
@@ -75,7 +76,7 @@ waiting known (field ∷ fields) before goes e =
       | inr more ↦ further known field fields (waiting known fields (put before (last_of field.range) (measured known field.ty)) (put_not before (last_of field.range) (measured known field.ty) goes more) e)
     ]
 
-row_waiting : (known : List Measure) (row : Row) → row.fault ≡ None → type_measure known row ≡ Waits → Waiting known row.fields
+pub row_waiting : (known : List Measure) (row : Row) → row.fault ≡ None → type_measure known row ≡ Waits → Waiting known row.fields
 row_waiting known row none e =
     waiting known row.fields (first_measure row) (first_not row.own row.fault none) (closed_waits (put_fields known (first_measure row) row.fields) e)
 
@@ -96,7 +97,7 @@ fewer_inside rows sound outer part row is has =
     part (length rows) (sound.numbered outer part row is has) (sound.free part (sound.numbered outer part row is has))
     (found rows part outer (directly outer part row is has))
 
-row_of : (rows : List Row) (number : ℕ) → number < length rows → (row : Row) × (slice_get rows number ≡ Some row)
+pub row_of : (rows : List Row) (number : ℕ) → number < length rows → (row : Row) × (slice_get rows number ≡ Some row)
 row_of [] number below = absurd (omega arith)
 row_of (row ∷ rows) zero below = (row, refl)
 row_of (row ∷ rows) (suc number) below = row_of rows number (omega arith)

@@ -8,3 +8,7 @@ pub mod Counts
 pub mod Found
 pub mod LaidOut
 pub mod Numbers
+pub mod NoCells
+pub mod Rounds
+pub mod Planned
+pub mod Falling

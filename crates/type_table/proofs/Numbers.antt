@@ -32,7 +32,7 @@ use Rattle.type_table.specs.declared.scope.Basis.{Basis}
 use Rattle.type_table.specs.declared.scope.Basis.TheVariants as b
 use Rattle.type_table.specs.declared.members.Parts.{Parts}
 use Rattle.type_table.specs.declared.walk.Walk.{Walk}
-use Rattle.type_table.specs.Layouts.{pointer_layout, measured}
+use Rattle.type_table.specs.Layouts.{pointer_layout, measured, known_of}
 use Rattle.type_table.specs.Cycles.{HasField, here, later}
 use Rattle.type_table.specs.Names.{entry_of, type_number, named_type, base_type, basis_of, pointed, type_of}
 use Rattle.type_table.specs.Members.{taken, range_of, with_basis, with_range, field_made, with_field, with_member, with_members}
@@ -175,7 +175,7 @@ item_grows types walk (i.Procedure one) = same types walk _ (kind_same walk one.
 item_grows types walk (i.Type at name members) = record {
   count = length-append walk.rows (whole_row types walk name members ∷ []);
   below = λ all. one_row (length types) walk.rows (whole_row types walk name members) all
-      (members_below types walk.entries walk.known [] (start_row walk name) members tt);
+      (members_below types walk.entries (known_of walk.rows) [] (start_row walk name) members tt);
 }
 item_grows types walk (i.Stmt stmt) = same types walk _ (stmt_same types walk stmt)
 

@@ -8,11 +8,11 @@ use Rattle.type_table.specs.declared.row.Row.{Row}
 use Rattle.type_table.specs.Layouts.{put, last_of, measure_at, measured, put_fields, first_measure, closed, type_measure, measures}
 use Rattle.type_table.specs.Cycles.{HasField, here, later, Contains, directly, through}
 
-waits_stay : (known : List Measure) (fields : List Field) → put_fields known Waits fields ≡ Waits
+pub waits_stay : (known : List Measure) (fields : List Field) → put_fields known Waits fields ≡ Waits
 waits_stay known [] = refl
 waits_stay known (field ∷ fields) = waits_stay known fields
 
-put_waits : (before : Measure) (last : ℕ) → put before last Waits ≡ Waits
+pub put_waits : (before : Measure) (last : ℕ) → put before last Waits ≡ Waits
 put_waits Waits last = refl
 put_waits Big last = refl
 put_waits (Fits l) last = refl
@@ -26,7 +26,7 @@ waits_for known _ number before (here field fields _ is) e =
     ∙ (ap (λ (x : Measure). put_fields known x fields) (put_waits before (last_of field.range)) ∙ waits_stay known fields)
 waits_for known _ number before (later field fields _ has) e = waits_for known fields number (put before (last_of field.range) (measured known field.ty)) has e
 
-row_waits : (known : List Measure) (row : Row) (number : ℕ) → HasField row.fields number → measure_at known number ≡ Waits → type_measure known row ≡ Waits
+pub row_waits : (known : List Measure) (row : Row) (number : ℕ) → HasField row.fields number → measure_at known number ≡ Waits → type_measure known row ≡ Waits
 row_waits known row number has e = ap closed (waits_for known row.fields number (first_measure row) has e)
 
 pub at_row : (f : Row → Measure) (rows : List Row) (i : ℕ) (row : Row) → slice_get rows i ≡ Some row → get_or (map f rows) i Waits ≡ f row

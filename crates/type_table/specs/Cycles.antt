@@ -1,5 +1,5 @@
 -- Types that contain themselves. A pointer to a Type doesn't contain it.
-use Rattle.std.specs.Prelude.{◌≡◌, ℕ, zero, suc, Bool, false, ◌||◌, ◌==◌, Some, List, [], ◌∷◌, map, length, slice_index_or, slice_get}
+use Rattle.std.specs.Prelude.{◌≡◌, ℕ, zero, suc, Bool, true, false, ◌&&◌, ◌||◌, ◌==◌, nat_lt, if◌then◌else◌, Some, List, [], ◌∷◌, map, length, slice_index_or, slice_get}
 use Rattle.fb_ast.specs.declared.ty.Ty.{Ty}
 use Rattle.fb_ast.specs.declared.ty.Ty.TheVariants as t
 use Rattle.type_table.specs.declared.row.Field.{Field}
@@ -39,3 +39,22 @@ led rows target (suc n) = map (row_leads target (led rows target n)) rows
 -- whether the Type of this number contains itself: a way back to it needs no more Types than there are
 abbrev pub in_itself : List Row → ℕ → Bool
 in_itself rows target = marked_at (led rows target (length rows)) target
+
+-- Labels of Types. Where no Type has one with a greater label in it, a Type whose fields all have smaller ones than its own
+-- doesn't contain itself.
+abbrev pub label_at : List ℕ → ℕ → ℕ
+label_at labels number = slice_index_or labels number 0
+
+-- whether the Types in fields have labels of at most so much
+abbrev pub type_below : List ℕ → ℕ → Ty → Bool
+type_below labels most (t.Obj number) = if nat_lt most (label_at labels number) then false else true
+type_below labels most other = true
+
+abbrev pub fields_below : List ℕ → ℕ → List Field → Bool
+fields_below labels most [] = true
+fields_below labels most (field ∷ fields) = type_below labels most field.ty && fields_below labels most fields
+
+-- whether no Type from this number on has one with a greater label in it
+abbrev pub labels_fall : List ℕ → ℕ → List Row → Bool
+labels_fall labels number [] = true
+labels_fall labels number (row ∷ rows) = fields_below labels (label_at labels number) row.fields && labels_fall labels (suc number) rows

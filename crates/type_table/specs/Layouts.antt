@@ -1,5 +1,5 @@
 -- How the values of types lie in memory.
-use Rattle.std.specs.Prelude.{ℕ, zero, suc, ◌+◌, ◌-◌, ◌*◌, ◌/◌, ◌%◌, ◌^◌, Bool, true, false, ◌||◌, nat_lt, if◌then◌else◌, Option, Some, None, List, [], ◌∷◌, map, slice_index_or}
+use Rattle.std.specs.Prelude.{ℕ, zero, suc, ◌+◌, ◌-◌, ◌*◌, ◌/◌, ◌%◌, ◌^◌, Bool, true, false, ◌||◌, nat_lt, if◌then◌else◌, Option, Some, None, List, [], ◌∷◌, map, length, slice_index_or}
 use Rattle.word64.specs.declared.kind.Kind.{Kind}
 use Rattle.word64.specs.declared.kind.Kind.TheVariants.{Byte, UByte, Short, UShort, Long, ULong, Integer, UInteger, LongInt, ULongInt, Boolean}
 use Rattle.fb_base.specs.declared.fault.Fault.{Fault}
@@ -122,3 +122,7 @@ type_measure known row = closed (put_fields known (first_measure row) row.fields
 abbrev pub measures : List Row → ℕ → List Measure
 measures rows zero = []
 measures rows (suc n) = map (type_measure (measures rows n)) rows
+
+-- what is known of the layout of each Type where these are all
+abbrev pub known_of : List Row → List Measure
+known_of rows = measures rows (length rows)

@@ -4,5 +4,6 @@ pub mod Layouts
 pub mod Members
 pub mod Names
 pub mod Offsets
+pub mod Plans
 pub mod Tables
 pub mod Walks

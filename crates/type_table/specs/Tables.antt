@@ -1,5 +1,5 @@
 -- The table of a module's Types, or the first fault among them.
-use Rattle.std.specs.Prelude.{◌≡◌, ℕ, zero, suc, if◌then◌else◌, nat_lt, Option, Some, None, Result, Ok, Err, List, [], ◌∷◌, length}
+use Rattle.std.specs.Prelude.{◌≡◌, ℕ, zero, suc, if◌then◌else◌, nat_lt, Option, Some, None, Result, Ok, Err, List, [], ◌∷◌}
 use Rattle.std.specs.List.{position}
 use Rattle.std.specs.Str.{bytes_eq}
 use Rattle.fb_base.specs.declared.fault.Span.{Span}
@@ -13,7 +13,7 @@ use Rattle.type_table.specs.declared.row.Row.{Row}
 use Rattle.type_table.specs.declared.table.Table.{Table}
 use Rattle.type_table.specs.declared.table.TypeErr.{TypeErr}
 use Rattle.type_table.specs.declared.table.TypeErr.TheVariants as e
-use Rattle.type_table.specs.Layouts.{measure_at, measures}
+use Rattle.type_table.specs.Layouts.{measure_at, known_of}
 use Rattle.type_table.specs.Cycles.{in_itself}
 use Rattle.type_table.specs.Names.{fault_at}
 use Rattle.type_table.specs.Members.{first_of}
@@ -39,10 +39,6 @@ first_fault rows known number (row ∷ rest) = first_of (row_fault rows known nu
 -- a module's Types
 abbrev pub rows_of : List Item → List Row
 rows_of items = (walked (type_names items) nothing items).rows
-
--- what is known of the layout of each
-abbrev pub known_of : List Row → List Measure
-known_of rows = measures rows (length rows)
 
 abbrev pub IsLaidOut : Measure → Type 0
 IsLaidOut measure = (layout : Layout) × (measure ≡ Fits layout)

@@ -1,4 +1,5 @@
--- What is known of a module's names and Types, item by item.
+-- What is known of a module's names and Types, item by item. SizeOf of a Type has a value where that Type and all that it
+-- contains stand before, in any order among themselves: what is known is what is known where those before are all.
 use Rattle.std.specs.Prelude.{ℕ, ◌++◌, Bool, false, ◌||◌, Option, Some, None, is_some, List, [], ◌∷◌}
 use Rattle.std.specs.List.{list_any}
 use Rattle.std.specs.Str.{bytes_eq}
@@ -21,7 +22,7 @@ use Rattle.const_values.specs.declared.outcome.Outcome.TheVariants as o
 use Rattle.const_values.specs.Values.{value_of, cast, written_kind}
 use Rattle.type_table.specs.declared.row.Row.{Row}
 use Rattle.type_table.specs.declared.walk.Walk.{Walk}
-use Rattle.type_table.specs.Layouts.{type_measure}
+use Rattle.type_table.specs.Layouts.{known_of}
 use Rattle.type_table.specs.Names.{entry_of, named_outcome, sized_outcome}
 use Rattle.type_table.specs.Members.{head_name, with_members}
 
@@ -39,7 +40,7 @@ type_names [] = []
 type_names (item ∷ items) = type_name item ++ type_names items
 
 abbrev pub nothing : Walk
-nothing = record { entries = []; rows = []; known = [] }
+nothing = record { entries = []; rows = [] }
 
 -- one name more
 abbrev pub put_entry : Walk → List ℕ → Outcome → Walk
@@ -66,7 +67,7 @@ const_value (Some ty) value = settled (cast (written_kind ty.base ty.pointers) v
 
 abbrev pub with_const : List (List ℕ) → Walk → Name → Option TypeName → Expr → Walk
 with_const types walk name ty e =
-    put_entry walk name.text (const_value ty (value_of (named_outcome types walk.entries) (sized_outcome types walk.entries walk.known) e))
+    put_entry walk name.text (const_value ty (value_of (named_outcome types walk.entries) (sized_outcome types walk.entries (known_of walk.rows)) e))
 
 abbrev pub with_stmt : List (List ℕ) → Walk → Stmt → Walk
 with_stmt types walk (s.Dim at storage vars) = put_vars walk vars
@@ -87,10 +88,10 @@ abbrev pub start_row : Walk → Name → Row
 start_row walk name = record { name = name; twice = is_twice walk name.text; own = false; fault = None; fields = [] }
 
 abbrev pub whole_row : List (List ℕ) → Walk → Name → List Member → Row
-whole_row types walk name members = with_members types walk.entries walk.known [] (start_row walk name) members
+whole_row types walk name members = with_members types walk.entries (known_of walk.rows) [] (start_row walk name) members
 
 abbrev pub put_row : Walk → Row → Walk
-put_row walk row = record walk { rows = walk.rows ++ row ∷ []; known = walk.known ++ type_measure walk.known row ∷ [] }
+put_row walk row = record walk { rows = walk.rows ++ row ∷ [] }
 
 abbrev pub with_type : List (List ℕ) → Walk → Name → List Member → Walk
 with_type types walk name members = put_row walk (whole_row types walk name members)

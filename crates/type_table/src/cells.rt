@@ -63,7 +63,7 @@ fn put_value(
     }
 }
 
-// The cells of so many values of a type.
+// The cells of so many values of a type. Where the first one has none, none has, and the others aren't looked at.
 #[cycle(cells)]
 fn put_values(
     rows: &[Row],
@@ -77,9 +77,13 @@ fn put_values(
     ensures { OnOk result (found.new.items ≡ found.old.items ++ repeated (value_cells (cells rows.now known.now depth) ty.now) (size_of (measured known.now ty.now)) at count) }
 {
     let bytes = size(measured(known, ty));
+    let before = found.len();
     for i in 0..count {
         let place = element(at, i, bytes)?;
         put_value(rows, known, depth, ty, place, found)?;
+        if found.len() == before {
+            return Ok(());
+        }
     }
     Ok(())
 }

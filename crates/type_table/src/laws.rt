@@ -10,6 +10,7 @@ ghost use Rattle.type_table.specs.declared.row.Row.{Row};
 ghost use Rattle.type_table.specs.Cells.{CellsLieInOrder, type_cells};
 ghost use Rattle.type_table.specs.Cycles.{Contains, HasField, in_itself};
 ghost use Rattle.type_table.specs.Layouts.{
+  known_of,
   measure_at,
   measured,
   measures,
@@ -17,7 +18,7 @@ ghost use Rattle.type_table.specs.Layouts.{
   type_measure,
 };
 ghost use Rattle.type_table.specs.Offsets.{IsNext, IsWhole};
-ghost use Rattle.type_table.specs.Tables.{IsLaidOut, fault_of, known_of, rows_of};
+ghost use Rattle.type_table.specs.Tables.{IsLaidOut, fault_of, rows_of};
 
 /// Rounding up gives the first multiple of the alignment.
 pub fn next_multiples()
@@ -46,18 +47,18 @@ pub fn fields_are_of_types()
     ensures { (items : List Item) (number part : ℕ) (row : Row) → slice_get (rows_of items) number ≡ Some row → HasField row.fields part → part < length (rows_of items) }
 {}
 
-/// A Type that is found to contain itself does: it has a field of itself, or of a Type that contains it. So nothing else
-/// is a cause of TypeCycle.
+/// A Type that is found to contain itself does: it has a field without a fault of its own that is of itself, or of a Type
+/// that contains it. So nothing else is a cause of TypeCycle.
 pub fn circles_are_there()
     ensures { (rows : List Row) (number : ℕ) → in_itself rows number ≡ true → Contains rows number number }
 {}
 
-/// A Type that contains itself is found.
+/// A Type that contains itself through fields without a fault of their own is found.
 pub fn circles_are_found()
     ensures { (rows : List Row) (number : ℕ) → Contains rows number number → in_itself rows number ≡ true }
 {}
 
-/// A Type that contains itself is never laid out.
+/// A Type that contains itself through such fields is never laid out.
 pub fn circles_have_no_layout()
     ensures { (rows : List Row) (n number : ℕ) → Contains rows number number → measure_at (measures rows n) number ≡ Waits }
 {}

@@ -3,16 +3,16 @@
 
 mod cells;
 mod cycle;
+mod labels;
 pub mod laws;
 mod layout;
 mod measure;
 mod members;
 mod offset;
+mod plan;
 mod row;
 mod scope;
 mod table;
-#[cfg(test)]
-mod tests;
 mod walk;
 
 pub use layout::{Align, Layout, Measure};

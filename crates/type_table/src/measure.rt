@@ -1,4 +1,4 @@
-ghost use Rattle.std.specs.Prelude.{◌≡◌, map, IfOk, length};
+ghost use Rattle.std.specs.Prelude.{◌≡◌};
 ghost use Rattle.type_table.specs.Layouts.{
   last_of,
   measure_at,
@@ -6,14 +6,11 @@ ghost use Rattle.type_table.specs.Layouts.{
   first_measure,
   put_fields,
   type_measure,
-  measures,
 };
 
 use crate::layout::{Align, Layout, Measure, closed, kind_layout, put};
 use crate::row::{Range, Row};
 use fb_ast::Ty;
-use fb_base::NoMemory;
-use std::alloc::Global;
 use word64::sub;
 
 const POINTER: Layout = Layout {
@@ -85,26 +82,4 @@ pub fn type_measure(known: &[Measure], row: &Row) -> Measure
         measure = put(measure, last(field.range), measured(known, &field.ty));
     }
     closed(measure)
-}
-
-// What is known of all Types, by what was known of each.
-fn round(alloc: Global, known: &[Measure], rows: &[Row]) -> Result<Vec<Measure>, NoMemory>
-    ensures { IfOk result (λ next. next.items ≡ map (type_measure known.now) rows.now) }
-{
-    Ok(
-        rows.iter()
-            .map(|row| type_measure(known, row))
-            .collect(alloc)?,
-    )
-}
-
-/// What is known of all Types when each was looked at as often as there are Types.
-pub fn measures(alloc: Global, rows: &[Row]) -> Result<Vec<Measure>, NoMemory>
-    ensures { IfOk result (λ known. known.items ≡ measures rows.now (length rows.now)) }
-{
-    let mut known = Vec::new(alloc);
-    for _turn in 0..rows.len() {
-        known = round(alloc, known.as_slice(), rows)?;
-    }
-    Ok(known)
 }

@@ -1,5 +1,6 @@
 ghost use Rattle.std.specs.Prelude.{◌≡◌, IfOk};
 ghost use Rattle.type_table.specs.Cells.{shape_of};
+ghost use Rattle.type_table.specs.Cycles.{labels_fall};
 ghost use Rattle.type_table.specs.Layouts.{measured};
 ghost use Rattle.type_table.specs.Offsets.{size_of, align_of, lives_of, field_offset};
 ghost use Rattle.type_table.specs.Tables.{
@@ -14,10 +15,12 @@ ghost use Rattle.type_table.specs.Tables.{
 };
 
 use crate::cells::type_cells;
-use crate::cycle::in_itself;
+use crate::cycle::{in_itself, labels_fall};
+use crate::labels::labels;
 use crate::layout::{Measure, bytes};
-use crate::measure::{measure_at, measured, measures};
+use crate::measure::{measure_at, measured};
 use crate::offset::field_offset;
+use crate::plan::Laid;
 use crate::row::Row;
 use crate::walk::{Walk, type_names, walked};
 use fb_ast::{Tree, Ty};
@@ -55,10 +58,13 @@ impl From<NoMemory> for TypeErr {
 fn measure_fault(
     alloc: Global,
     rows: &[Row],
+    labels: &[usize],
+    fall: bool,
     number: u32,
     measure: Measure,
     at: Span,
 ) -> Result<Option<Fault>, NoMemory>
+    requires { fall ≡ labels_fall labels.now 0 rows.now }
     ensures { IfOk result (λ fault. fault ≡ measure_fault rows.now number measure at) }
 {
     match measure {
@@ -68,7 +74,7 @@ fn measure_fault(
             at,
         })),
         Measure::Waits => {
-            if in_itself(alloc, rows, number)? {
+            if in_itself(alloc, rows, labels, fall, number)? {
                 Ok(Some(Fault {
                     kind: FaultKind::TypeCycle,
                     at,
@@ -85,9 +91,12 @@ fn row_fault(
     alloc: Global,
     rows: &[Row],
     known: &[Measure],
+    labels: &[usize],
+    fall: bool,
     number: usize,
     row: &Row,
 ) -> Result<Option<Fault>, NoMemory>
+    requires { fall ≡ labels_fall labels.now 0 rows.now }
     ensures { IfOk result (λ fault. fault ≡ row_fault rows.now known.now number row.now) }
 {
     if number > 0xffff_ffff {
@@ -100,7 +109,15 @@ fn row_fault(
         }));
     }
     let measure = measure_at(known, number);
-    match measure_fault(alloc, rows, number as u32, measure, row.name.at)? {
+    match measure_fault(
+        alloc,
+        rows,
+        labels,
+        fall,
+        number as u32,
+        measure,
+        row.name.at,
+    )? {
         Some(fault) => Ok(Some(fault)),
         None => Ok(row.fault),
     }
@@ -110,8 +127,10 @@ fn row_fault(
 fn first_fault(alloc: Global, rows: &[Row], known: &[Measure]) -> Result<Option<Fault>, NoMemory>
     ensures { IfOk result (λ fault. fault ≡ first_fault rows.now known.now 0 rows.now) }
 {
+    let labels = labels(alloc, rows)?;
+    let fall = labels_fall(labels.as_slice(), rows);
     for i in 0..rows.len() {
-        if let Some(fault) = row_fault(alloc, rows, known, i, &rows[i])? {
+        if let Some(fault) = row_fault(alloc, rows, known, labels.as_slice(), fall, i, &rows[i])? {
             return Ok(Some(fault));
         }
     }
@@ -134,9 +153,8 @@ pub fn of(alloc: Global, tree: &Tree) -> Result<Table, TypeErr>
     let Walk {
         entries: _entries,
         rows,
-        known: _known,
     } = walk;
-    let known = measures(alloc, rows.as_slice())?;
+    let Laid { rows, known } = rows.laid();
     match first_fault(alloc, rows.as_slice(), known.as_slice())? {
         Some(fault) => Err(TypeErr::Fault(fault)),
         None => Ok(of_rows(rows, known)),

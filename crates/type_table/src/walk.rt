@@ -21,9 +21,8 @@ ghost use Rattle.type_table.specs.Walks.{
   nothing,
 };
 
-use crate::layout::Measure;
-use crate::measure::type_measure;
 use crate::members::put_members;
+use crate::plan::Plan;
 use crate::row::Row;
 use crate::scope::{Entry, Scope, entry_of};
 use const_values::{Outcome, cast, number_type, value};
@@ -33,13 +32,11 @@ use fb_ast::{
 use fb_base::{NoMemory, Sequence, Text};
 use std::alloc::Global;
 
-/// What is known up to a place of the module: its names that are no Types', its Types, and what is known of their
-/// layouts by what stands before.
+/// What is known up to a place of the module: its names that are no Types', and its Types.
 #[derive(Drop)]
 pub struct Walk {
     pub entries: Sequence<Entry>,
-    pub rows: Sequence<Row>,
-    pub known: Sequence<Measure>,
+    pub rows: Plan,
 }
 
 // The name of a Type, behind those of the Types before.
@@ -128,7 +125,7 @@ fn put_const(
     let scope = Scope {
         types,
         entries: walk.entries.as_slice(),
-        known: walk.known.as_slice(),
+        known: walk.rows.known(),
     };
     let value = const_value(ty, value(&scope, e));
     put_entry(alloc, walk, name.text.bytes(), value)
@@ -174,7 +171,7 @@ fn row_named(rows: &[Row], name: &[u8]) -> bool
 fn is_twice(walk: &Walk, name: &[u8]) -> bool
     ensures { result ≡ is_twice walk.now name.now }
 {
-    if row_named(walk.rows.as_slice(), name) {
+    if row_named(walk.rows.rows(), name) {
         return true;
     }
     entry_of(walk.entries.as_slice(), name).is_some()
@@ -210,7 +207,7 @@ fn whole_row(
     let scope = Scope {
         types,
         entries: walk.entries.as_slice(),
-        known: walk.known.as_slice(),
+        known: walk.rows.known(),
     };
     put_members(alloc, &scope, &mut row, members)?;
     Ok(row)
@@ -226,10 +223,7 @@ fn put_type(
     ensures { OnOk result (walk.new ≡ with_type types.now walk.old name.now members.now) }
 {
     let row = whole_row(alloc, walk, types, name, members)?;
-    let measure = type_measure(walk.known.as_slice(), &row);
-    walk.rows.add(row)?;
-    walk.known.add(measure)?;
-    Ok(())
+    walk.rows.add(alloc, row)
 }
 
 fn put_head(alloc: Global, walk: &mut Walk, head: &Head) -> Result<(), NoMemory>
@@ -277,8 +271,7 @@ pub fn walked(alloc: Global, types: &[Text], items: &[Item]) -> Result<Walk, NoM
 {
     let mut walk = Walk {
         entries: Sequence::new(alloc),
-        rows: Sequence::new(alloc),
-        known: Sequence::new(alloc),
+        rows: Plan::new(alloc, types.len())?,
     };
     for item in items {
         put_item(alloc, &mut walk, types, item)?;

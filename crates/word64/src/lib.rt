@@ -3,8 +3,6 @@
 
 mod arith;
 mod kind;
-#[cfg(test)]
-mod tests;
 
 pub use arith::{add, div_s, div_u, less_s, less_u, mul, rem_s, rem_u, shl, shr_s, shr_u, sub};
 pub use kind::{Kind, narrow};

@@ -9,7 +9,7 @@ use Rattle.main_run.proofs.run.run.Goals as goal
 
 pub entries-init : goal.entries-init
 entries-init g c =
-    let image = c.args.image.now in
+    let image = c.args.program.now in
     let old = g.K.Sink.written c.args.out.now in
     record {
       made = subst (λ k. HasMade (machine_step (main_machine image)) c.args.turns (main_cpu image) old old c.args.schedule.now.items 0 (Going k)) (sym c.main_thread-cpu.ensures.state) (made_none (machine_step (main_machine image)) c.args.turns (main_cpu image) old c.args.schedule.now.items c.requires);
@@ -21,7 +21,7 @@ entries-init g c =
 
 pub entries-preserved : goal.entries-preserved
 entries-preserved g c =
-    let image = c.args.image.now in
+    let image = c.args.program.now in
     let step = machine_step (main_machine image) in
     let here = cpu_of c.entries.cpu in
     let next = cpu_of c.do_entry.new.cpu in
@@ -37,7 +37,7 @@ entries-preserved g c =
 
 pub returns-in-Some-clause-ends : goal.returns-in-Some-clause-ends
 returns-in-Some-clause-ends g c =
-    let image = c.args.image.now in
+    let image = c.args.program.now in
     let here = cpu_of c.entries.cpu in
     let next = cpu_of c.do_entry.new.cpu in
     let ends = subst (λ low. EntryEndsAs (machine_step (machine_of image low)) c.args.turns here next (g.K.Sink.written c.entries.out) (g.K.Sink.written c.do_entry.new.out) (g.K.Sink.faults c.entries.out) (g.K.Sink.faults c.do_entry.new.out) c.entries.schedule.items c.do_entry.new.schedule.items (Some c.in-Some.ending)) c.entries.invariant.low c.in-Some.ensures.ends in
@@ -45,7 +45,7 @@ returns-in-Some-clause-ends g c =
 
 pub returns-clause-ends : goal.returns-clause-ends
 returns-clause-ends g c =
-    let image = c.args.image.now in
+    let image = c.args.program.now in
     let here = cpu_of c.entries.cpu in
     let all : c.entries.made ≡ c.args.entries = omega (arith, c.entries-test.false, c.entries.invariant.within) in
     (refl, record { state = here; made = subst (λ n. HasMade (machine_step (main_machine image)) c.args.turns (main_cpu image) (g.K.Sink.written c.args.out.now) (g.K.Sink.written c.entries.out) c.entries.schedule.items n (Going here)) all c.entries.invariant.made })

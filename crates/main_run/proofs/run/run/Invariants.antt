@@ -9,7 +9,7 @@ use Rattle.main_run.proofs.run.run.Given as goal
 -- so many entries were made, and the thread goes on
 abbrev pub invariant-entries : goal.invariant-entries
 invariant-entries g l = record {
-  made : HasMade (machine_step (main_machine l.image)) l.turns (main_cpu l.image) (g.K.Sink.written l.fn.out) (g.K.Sink.written l.out) l.schedule.items l.made (Going (cpu_of l.cpu));
+  made : HasMade (machine_step (main_machine l.program)) l.turns (main_cpu l.program) (g.K.Sink.written l.fn.out) (g.K.Sink.written l.out) l.schedule.items l.made (Going (cpu_of l.cpu));
   within : l.made ≤ l.entries;
   low : l.cpu.low ≡ stack_of 0;
   told : SameTelling (g.K.Sink.written l.fn.out) (g.K.Sink.written l.out);

@@ -10,7 +10,7 @@ use Rattle.main_run.proofs.segment.segment.Goals as goal
 
 pub steps-smaller-in-Next : goal.steps-smaller-in-Next
 steps-smaller-in-Next c =
-    let image = c.args.image.now in
+    let image = c.args.program.now in
     let low = c.args.cpu.now.low in
     let here = cpu_of c.steps.cpu in
     let next = cpu_of c.step.new.cpu in
@@ -20,7 +20,7 @@ steps-smaller-in-Next c =
 
 pub steps-preserved-in-Next : goal.steps-preserved-in-Next
 steps-preserved-in-Next c =
-    let image = c.args.image.now in
+    let image = c.args.program.now in
     let low = c.args.cpu.now.low in
     let here = cpu_of c.steps.cpu in
     let next = cpu_of c.step.new.cpu in
@@ -33,7 +33,7 @@ steps-preserved-in-Next c =
 
 pub steps-preserved : goal.steps-preserved
 steps-preserved c =
-    let image = c.args.image.now in
+    let image = c.args.program.now in
     let low = c.args.cpu.now.low in
     let here = cpu_of c.steps.cpu in
     let next = cpu_of c.step.new.cpu in
@@ -47,7 +47,7 @@ steps-preserved c =
 
 pub returns-in-Call-clause-comes : goal.returns-in-Call-clause-comes
 returns-in-Call-clause-comes c =
-    let image = c.args.image.now in
+    let image = c.args.program.now in
     let low = c.args.cpu.now.low in
     let here = cpu_of c.steps.cpu in
     let next = cpu_of c.step.new.cpu in
@@ -58,7 +58,7 @@ returns-in-Call-clause-comes c =
 
 pub returns-in-Trap-clause-comes : goal.returns-in-Trap-clause-comes
 returns-in-Trap-clause-comes c =
-    let image = c.args.image.now in
+    let image = c.args.program.now in
     let low = c.args.cpu.now.low in
     let here = cpu_of c.steps.cpu in
     let next = cpu_of c.step.new.cpu in
@@ -70,7 +70,7 @@ returns-in-Trap-clause-comes c =
 
 pub returns-then-left-eq0-clause-comes : goal.returns-then-left-eq0-clause-comes
 returns-then-left-eq0-clause-comes c =
-    let image = c.args.image.now in
+    let image = c.args.program.now in
     let low = c.args.cpu.now.low in
     let here = cpu_of c.steps.cpu in
     let next = cpu_of c.step.new.cpu in

@@ -1,4 +1,4 @@
-use Rattle.std.proofs.Common.{◌≡◌, ◌∙◌}
+use Rattle.std.proofs.Common.{◌∙◌}
 use Rattle.mid_code.proofs.Marks.{all_found, first_mark}
 use Rattle.mid_code.proofs.search.search.Goals as goal
 

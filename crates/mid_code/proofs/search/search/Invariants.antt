@@ -1,4 +1,4 @@
-use Rattle.std.proofs.Common.{◌≡◌, ℕ, ◌<◌, true, length}
+use Rattle.std.proofs.Common.{◌≡◌, ◌<◌, true, length}
 use Rattle.mid_code.specs.Paths.{AreReached, marked, unmarked}
 use Rattle.mid_code.proofs.search.search.Given as goal
 

@@ -1,4 +1,4 @@
-use Rattle.std.proofs.Common.{◌≡◌, ◌<◌, length, Some, sym, ◌∙◌, subst}
+use Rattle.std.proofs.Common.{sym, ◌∙◌, subst}
 use Rattle.mid_code.specs.Paths.{IsClosedAt}
 use Rattle.mid_code.proofs.Marks.{not_false, op_here, marked_here, grows_nexts, closed_nexts}
 use Rattle.mid_code.proofs.search.spread_at.Goals as goal

@@ -1,4 +1,4 @@
-use Rattle.std.proofs.Common.{◌≡◌, true, false, length, eqb}
+use Rattle.std.proofs.Common.{◌≡◌, false, length, eqb}
 use Rattle.text_functions.specs.Functions.{is_below_one}
 use Rattle.text_functions.proofs.Finds.{find_in}
 use Rattle.text_functions.proofs.functions.find.Goals as goal

@@ -1,4 +1,4 @@
-use Rattle.std.proofs.Common.{◌<◌, length, refl, sym, below_more}
+use Rattle.std.proofs.Common.{refl, sym, below_more}
 use Rattle.mid_code.specs.Operations.{code_of}
 use Rattle.mid_code.specs.Flow.{IsSound}
 use Rattle.mid_code.proofs.Marks.{not_false, sound_alone, sound_within}

@@ -1,0 +1,15 @@
+pub mod Carried
+pub mod Determined
+pub mod Touched
+pub mod Serial
+pub mod Alike
+pub mod Ends
+pub mod Firsts
+pub mod Pairs
+pub mod Replayed
+pub mod Composed
+pub mod History
+pub mod Races
+pub mod Computing
+pub mod Comes
+pub mod Forward

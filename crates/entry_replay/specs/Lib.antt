@@ -1,0 +1,9 @@
+pub mod Accesses
+pub mod Runs
+pub mod World
+pub mod Replay
+pub mod Laws
+pub mod Computed
+pub mod Example
+pub mod Statements
+pub mod Ahead

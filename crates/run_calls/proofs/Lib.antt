@@ -1,0 +1,12 @@
+pub mod Keeps
+pub mod Threads
+pub mod Comes
+pub mod Numbers
+pub mod Standing
+pub mod Tied
+pub mod Making
+pub mod Freeing
+pub mod Closing
+pub mod Texts
+pub mod Writing
+pub mod TextRows

@@ -1,0 +1,9 @@
+pub mod Seen
+pub mod Shared
+pub mod PlaceRows
+pub mod TextRows
+pub mod ThreadRows
+pub mod Table
+pub mod Laws
+pub mod Example
+pub mod Ties
