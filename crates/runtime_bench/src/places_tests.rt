@@ -186,7 +186,7 @@ fn bytes_and_cells(rt: HostRuntime) -> Result<(), Fail> {
             (Close(B, 0), Some(0)),
             (Close(A + 8, 24), Some(0)),
             (Live(A + 31, 1), None),
-            (Act::Cell(A + 8), Some(0)),
+            (Act::Cell(A + 8), Some(8)),
         ],
     );
     Ok(())
