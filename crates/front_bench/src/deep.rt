@@ -73,14 +73,14 @@ fn is_read(alloc: Global, text: &str) -> bool {
 
 /// How many of the deepest texts have a tree.
 pub fn deep_texts(alloc: Global) -> Result<u32, AllocError> {
-    let mut found = 0;
+    let mut found = 0u32;
     for value in VALUES {
         let value = nested(alloc, value, DEEPEST, "a")?;
         for block in BLOCKS {
             let middle = format!(in alloc; "Print {value}")?;
             let text = nested(alloc, block, DEEPEST, middle.as_str())?;
             if is_read(alloc, text.as_str()) {
-                found += 1;
+                found = found.saturating_add(1);
             }
         }
     }
